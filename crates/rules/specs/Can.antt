@@ -1,0 +1,174 @@
+-- Classic and FD frames. 01, "Identifiers and lengths", and the 72 bytes of an object.
+use Prim.Native.Nat.{ℕ, _+_, _-_, _*_, _/_, _%_, _^_}
+use mathlib.Core.Bool.{Bool, true, false, not, cond, Bool·beq, _&&_, _||_}
+use mathlib.Core.List.{List, [], _∷_, _++_}
+use lib.ListN.{length, take, drop, getD, replicate}
+use lib.Dec.{eqb, ltb, leb}
+use lib.Bits.{bitAnd}
+use Rattle.rules.specs.Limits.{Limits, ram-size, object-start}
+use Rattle.rules.specs.Bytes.{big-endian, number, part}
+use Rattle.rules.specs.Reason.{Check, _if_, CAN-E-PARAM-DATA-LENGTH, BAD-IDENTIFIER, BAD-LENGTH}
+use Rattle.rules.specs.Format.{Format}
+
+-- a frame: identifier word, and its data (AUTOSAR's SDU)
+pub record Frame : Type 0 where
+  pub identifier : ℕ
+  pub sdu : List ℕ
+
+-- "payload (8 or 64), padding value, filter code (4), filter mask (4)"
+pub record Settings : Type 0 where
+  pub payload : ℕ
+  pub padding : ℕ
+  pub code : ℕ
+  pub mask : ℕ
+
+-- Identifiers
+
+-- "Bit 31 marks an extended identifier, bit 30 an FD frame."
+abbrev pub is-extended : ℕ → Bool
+is-extended identifier = eqb (identifier / 2 ^ 31) 1
+
+abbrev pub is-fd : ℕ → Bool
+is-fd identifier = eqb (identifier / 2 ^ 30 % 2) 1
+
+-- bits 28 to 11, which only an extended identifier may use
+abbrev pub extended-only : ℕ
+extended-only = 0x1FFFF800
+
+-- "good if bit 29 is clear and, where bit 31 is clear, bits 28 to 11 are clear too"
+abbrev pub identifier-good : ℕ → Bool
+identifier-good x = eqb (bitAnd x 0x20000000) 0 && (is-extended x || eqb (bitAnd x extended-only) 0)
+
+-- Lengths
+
+-- "FD lengths on the wire 0 to 8, 12, 16, 20, 24, 32, 48, 64"; the DLC code is the position in this list
+abbrev pub fd-lengths : List ℕ
+fd-lengths = 0 ∷ 1 ∷ 2 ∷ 3 ∷ 4 ∷ 5 ∷ 6 ∷ 7 ∷ 8 ∷ 12 ∷ 16 ∷ 20 ∷ 24 ∷ 32 ∷ 48 ∷ 64 ∷ []
+
+-- the first of the lengths that is at least n; 255 where none is
+unfoldable pub next-length : List ℕ → ℕ → ℕ
+next-length [] n = 255
+next-length (l ∷ ls) n = cond (leb n l) l (next-length ls n)
+
+-- how many of the lengths are below n
+unfoldable pub lengths-below : List ℕ → ℕ → ℕ
+lengths-below [] n = 0
+lengths-below (l ∷ ls) n = cond (leb n l) 0 (1 + lengths-below ls n)
+
+-- "goes out at the next higher wire length"
+abbrev pub wire-length : ℕ → ℕ
+wire-length n = next-length fd-lengths n
+
+abbrev pub dlc-code : ℕ → ℕ
+dlc-code n = lengths-below fd-lengths n
+
+-- the longest data: of a classic frame, and of an FD frame
+abbrev pub longest-classic : ℕ
+longest-classic = 8
+
+abbrev pub longest-fd : ℕ
+longest-fd = 64
+
+-- 3: "classic above 8, FD above 64, or FD to a payload of 8"
+abbrev pub length-fits : ℕ → ℕ → ℕ → Bool
+length-fits payload identifier n = cond (is-fd identifier) (leb n longest-fd && not (eqb payload longest-classic)) (leb n longest-classic)
+
+-- 40: "arriving length not a wire length of its format"
+abbrev pub is-wire-length : ℕ → ℕ → Bool
+is-wire-length identifier n = cond (is-fd identifier) (leb n longest-fd && eqb (wire-length n) n) (leb n longest-classic)
+
+-- Filters
+
+-- "bit 31 agrees with the code's, the identifier and the code agree on every bit of the mask, and the payload is 64 if the frame is FD"
+abbrev pub filter-accepts : ℕ → ℕ → ℕ → ℕ → Bool
+filter-accepts identifier code mask payload =
+    eqb (identifier / 2 ^ 31) (code / 2 ^ 31)
+    && eqb (bitAnd identifier mask) (bitAnd code mask)
+    && (not (is-fd identifier) || eqb payload longest-fd)
+
+-- The configuration record of an object
+
+-- "Sending: code and mask zero."
+abbrev pub sending-valid : Settings → Bool
+sending-valid s = eqb (s .code) 0 && eqb (s .mask) 0
+
+-- "padding zero; code bits 30 and 29 zero; mask bits 31 to 29 zero; if code bit 31 is clear, bits 28 to 11 of code and mask zero"
+abbrev pub receiving-valid : Settings → Bool
+receiving-valid s =
+    eqb (s .padding) 0
+    && eqb (bitAnd (s .code) 0x60000000) 0
+    && eqb (bitAnd (s .mask) 0xE0000000) 0
+    && (is-extended (s .code) || eqb (bitAnd (s .code) extended-only) 0 && eqb (bitAnd (s .mask) extended-only) 0)
+
+abbrev pub settings-valid : Bool → Settings → Bool
+settings-valid receiving s =
+    (eqb (s .payload) longest-classic || eqb (s .payload) longest-fd) && cond receiving (receiving-valid s) (sending-valid s)
+
+abbrev pub unused-settings : Settings
+unused-settings = record { payload = 0; padding = 0; code = 0; mask = 0 }
+
+abbrev pub settings-unused : Settings → Bool
+settings-unused s = eqb (s .payload) 0 && eqb (s .padding) 0 && eqb (s .code) 0 && eqb (s .mask) 0
+
+-- bytes 2 to 11 of a record: payload, padding value, filter code, filter mask
+abbrev pub settings-of : List ℕ → Settings
+settings-of r = record { payload = getD r 2 0; padding = getD r 3 0; code = number (part 4 4 r); mask = number (part 8 4 r) }
+
+-- "43 48 42, version 00 01"
+abbrev pub header : List ℕ
+header = 0x43 ∷ 0x48 ∷ 0x42 ∷ 0x00 ∷ 0x01 ∷ []
+
+-- The bytes of an object: "identifier word (4 bytes), wire length (1), DLC code (1), handle (2), data (64)"
+
+abbrev pub object-head : ℕ → ℕ → ℕ → List ℕ
+object-head identifier n handle = big-endian 4 identifier ++ (wire-length n ∷ dlc-code n ∷ big-endian 2 handle)
+
+-- "the added bytes hold the object's padding value. Data bytes after the wire length are zero."
+abbrev pub object-data : ℕ → List ℕ → List ℕ
+object-data padding sdu =
+    sdu ++ (replicate (wire-length (length sdu) - length sdu) padding ++ replicate (longest-fd - wire-length (length sdu)) 0)
+
+unfoldable pub object-bytes : Settings → ℕ → Frame → List ℕ
+object-bytes s handle f = object-head (f .identifier) (length (f .sdu)) handle ++ object-data (s .padding) (f .sdu)
+
+-- Write's reasons 3 and 34, and Arrived's reasons 34 and 40
+abbrev pub write-checks : Settings → Frame → List Check
+write-checks s f =
+    CAN-E-PARAM-DATA-LENGTH if not (length-fits (s .payload) (f .identifier) (length (f .sdu)))
+    ∷ BAD-IDENTIFIER if not (identifier-good (f .identifier))
+    ∷ []
+
+abbrev pub arrival-checks : Frame → List Check
+arrival-checks f =
+    BAD-IDENTIFIER if not (identifier-good (f .identifier))
+    ∷ BAD-LENGTH if not (is-wire-length (f .identifier) (length (f .sdu)))
+    ∷ []
+
+-- classic and FD frames as a format; all filters rank alike
+abbrev pub can-format : Format
+can-format =
+    record {
+      Frame = Frame;
+      Settings = Settings;
+      unused-settings = unused-settings;
+      settings-unused = settings-unused;
+      settings-valid = settings-valid;
+      header = header;
+      record-size = 12;
+      settings-of = settings-of;
+      write-checks = write-checks;
+      arrival-checks = arrival-checks;
+      accepts = λ s f. filter-accepts (f .identifier) (s .code) (s .mask) (s .payload);
+      rank = λ s. 0;
+      object-bytes = object-bytes;
+      handle-in = λ o. number (part 6 2 o);
+      identifier-in = λ o. number (part 0 4 o);
+      length-in = λ o. getD o 4 0;
+    }
+
+-- Data of an object: "that part of the caller's mailbox memory that holds its data, as long as byte 4 says;
+-- the empty part if the object is 32 or more, the memory is not 2,304 bytes, or byte 4 is above 64"
+unfoldable pub data-of : Limits → ℕ → List ℕ → List ℕ
+data-of L h ram =
+    let n = getD ram (object-start L h + 4) 0 in
+    cond (ltb h (L .objects) && eqb (length ram) (ram-size L) && leb n longest-fd) (part (object-start L h + 8) n ram) []

@@ -1,0 +1,74 @@
+-- What a call leaves behind, and how its reasons decide. 01, "Reasons for a no".
+use Prim.Native.Nat.{ℕ}
+use mathlib.Core.Bool.{Bool, not, cond}
+use mathlib.Core.List.{List, [], _∷_, _++_}
+use lib.ListN.{length}
+use lib.Dec.{eqb, ltb}
+use Rattle.rules.specs.Limits.{Limits, ram-size, sheet-size}
+use Rattle.rules.specs.Format.{Format}
+use Rattle.rules.specs.Notification.{Notification, development-error}
+use Rattle.rules.specs.Reason.{Check, _if_, E-OK, first-reason, return-code, is-development-error, INVALID-STATE, SHEET-TOO-SHORT, WRONG-RAM-SIZE}
+use Rattle.rules.specs.State.{State, valid}
+
+-- what a call answers beside its return code and reason
+pub data Answer : Type 0 where
+  no-answer : Answer
+  -- GetControllerMode's mode
+  mode : ℕ → Answer
+  -- the object that took a write
+  taken-by : ℕ → Answer
+  -- the three ends of an arrival: "stored, with the object's number; unwanted, where no object fits; or lost, where all that fit are full"
+  stored-in : ℕ → Answer
+  unwanted : Answer
+  lost : Answer
+
+pub record Outcome (F : Format) : Type 0 where
+  pub code : ℕ
+  pub reason : ℕ
+  pub answer : Answer
+  pub state : State F
+  pub ram : List ℕ
+  pub notifications : List Notification
+
+-- "a service writes one record of kind 5, an event none"; reasons from 32 up write nothing
+abbrev pub service-report : ℕ → ℕ → List Notification
+service-report service r = cond (is-development-error r) (development-error service r ∷ []) []
+
+abbrev pub no-report : ℕ → List Notification
+no-report r = []
+
+module _ (F : Format) where
+  -- "State and memory stay as they were."
+  abbrev pub rejected : (ℕ → List Notification) → Answer → State F → List ℕ → ℕ → Outcome F
+  rejected report answer s ram r =
+      record { code = return-code r; reason = r; answer = answer; state = s; ram = ram; notifications = report r }
+
+  -- a call that is accepted leaves this
+  abbrev pub accepted : Answer → State F → List ℕ → List Notification → Outcome F
+  accepted answer s ram notes = record { code = E-OK; reason = 0; answer = answer; state = s; ram = ram; notifications = notes }
+
+  -- the reason decides: 0 accepts
+  unfoldable pub judged : ℕ → (ℕ → Outcome F) → Outcome F → Outcome F
+  judged r refuse accept = cond (eqb r 0) accept (refuse r)
+
+-- "41, 32, 33 (where sheet or memory is taken), then .."
+module _ (L : Limits) (F : Format) where
+  abbrev pub state-check : State F → Check
+  state-check s = INVALID-STATE if not (valid L F s)
+
+  -- the number is the sheet's length in words
+  abbrev pub sheet-check : ℕ → Check
+  sheet-check sheet = SHEET-TOO-SHORT if ltb sheet (sheet-size L)
+
+  abbrev pub ram-check : List ℕ → Check
+  ram-check ram = WRONG-RAM-SIZE if not (eqb (length ram) (ram-size L))
+
+  -- a call that takes neither sheet nor memory; the sheet only; both
+  abbrev pub state-gate : State F → List Check
+  state-gate s = state-check s ∷ []
+
+  abbrev pub sheet-gate : State F → ℕ → List Check
+  sheet-gate s sheet = state-check s ∷ sheet-check sheet ∷ []
+
+  abbrev pub full-gate : State F → ℕ → List ℕ → List Check
+  full-gate s sheet ram = state-check s ∷ sheet-check sheet ∷ ram-check ram ∷ []
