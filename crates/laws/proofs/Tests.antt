@@ -1,0 +1,44 @@
+-- Bool tests taken apart and put together.
+use Prim.Native.Nat.{ℕ}
+use mathlib.Core.Path.{_≡_, refl, ap, sym, _∙_}
+use mathlib.Core.Bool.{Bool, true, false, not, cond, _&&_, _||_, true≢false}
+use mathlib.Core.Logic.{_⊎_, inl, inr}
+use native.Mathlib.Decide.{ℕ-discrete}
+use lib.Dec.{eqb}
+use borrow.Author.Tests.{eq-eqb, ne-eqb}
+
+pub both : {a b : Bool} → a ≡ true → b ≡ true → (a && b) ≡ true
+both p q = rw (p, q)
+
+pub left : (a b : Bool) → (a && b) ≡ true → a ≡ true
+left true b p = refl
+left false b p = absurd (true≢false (sym p))
+
+pub right : (a b : Bool) → (a && b) ≡ true → b ≡ true
+right true b p = p
+right false b p = absurd (true≢false (sym p))
+
+-- a test and its opposite cannot both hold
+pub clash : {A : Type 0} {b : Bool} → b ≡ true → b ≡ false → A
+clash p q = absurd (true≢false (sym p ∙ q))
+
+-- a property of both branches holds of the choice
+pub cond-both : {A : Type 0} (P : A → Type 0) (t : Bool) (x y : A) → (t ≡ true → P x) → (t ≡ false → P y) → P (cond t x y)
+cond-both P true x y p q = p refl
+cond-both P false x y p q = q refl
+
+pub cond-map : {A B : Type 0} (f : A → B) (t : Bool) (x y : A) → f (cond t x y) ≡ cond t (f x) (f y)
+cond-map f true x y = refl
+cond-map f false x y = refl
+
+pub decide : (b : Bool) → (b ≡ true) ⊎ (b ≡ false)
+decide true = inl refl
+decide false = inr refl
+
+pub not-true : (b : Bool) → not b ≡ true → b ≡ false
+not-true true p = absurd (true≢false (sym p))
+not-true false p = refl
+
+pub not-false : (b : Bool) → not b ≡ false → b ≡ true
+not-false true p = refl
+not-false false p = absurd (true≢false p)
