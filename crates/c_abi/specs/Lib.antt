@@ -1,0 +1,2 @@
+-- What C is told beyond the rules.
+pub mod Number
