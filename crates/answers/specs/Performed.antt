@@ -1,0 +1,22 @@
+-- What a call owes: its answer, the next state, the memory, the number of notifications and every word of the sheet are those of
+-- the outcome that the rules define. 01, "How much each call owes".
+use Prim.Native.Nat.{ℕ}
+use mathlib.Core.Path.{_≡_}
+use mathlib.Core.List.{List}
+use lib.ListN.{length}
+use Rattle.rules.specs.Notification.{sheet-after}
+use Rattle.rules.specs.Reason.{return-code}
+use Rattle.rules.specs.Outcome.{Outcome, Answer}
+use Rattle.rules.specs.Can.{can-format}
+use Rattle.places.specs.View.{view}
+use Rattle.places.specs.declared.state.State.{State}
+
+-- o is the defined outcome; then what the call gave: reason, answer, next state, count, memory, and the sheet before and after
+pub record Performed (o : Outcome can-format) (reason : ℕ) (answer : Answer) (state : State) (count : ℕ) (ram before after : List ℕ) : Type 0 where
+  pub code-is : return-code reason ≡ o .code
+  pub reason-is : reason ≡ o .reason
+  pub answer-is : answer ≡ o .answer
+  pub state-is : view state ≡ o .state
+  pub count-is : count ≡ length (o .notifications)
+  pub ram-is : ram ≡ o .ram
+  pub sheet-is : after ≡ sheet-after (o .notifications) before

@@ -1,0 +1,3 @@
+-- Laws that proofs of this crate cite.
+pub mod Laws
+pub mod Accepted
