@@ -1,0 +1,2 @@
+-- What a user of this chip may rely on.
+pub mod Chip

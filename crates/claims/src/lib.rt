@@ -1,0 +1,1 @@
+// The theorems for this chip, with no code: see proofs/Chip.antt.

@@ -1,0 +1,241 @@
+-- The poll rule: a sent frame whose object stays open is confirmed by the next write poll, with its own write's handle.
+use Prim.Native.Nat.{ℕ, zero, suc, _≤_, _<_}
+use mathlib.Core.Path.{_≡_, refl, ap, sym, _∙_, subst, subst⁻¹}
+use mathlib.Core.Bool.{Bool, true, false, not, cond, _&&_, _||_}
+use mathlib.Core.List.{List, [], _∷_, _++_}
+use mathlib.Core.Logic.{_⊎_, inl, inr, ⊎-elim}
+use native.Mathlib.Omega.{arith}
+use native.Mathlib.Decide.{decLt}
+use lib.ListN.{length}
+use lib.Dec.{eqb}
+use borrow.Author.Tests.{eq-eqb}
+use Rattle.rules.specs.Limits.{Limits}
+use Rattle.rules.specs.Format.{Format, Lawful}
+use Rattle.rules.specs.Repeat.{rising}
+use Rattle.rules.specs.Bytes.{same-bytes}
+use Rattle.rules.specs.Reason.{first-reason}
+use Rattle.rules.specs.Notification.{Notification, tx-confirmation, rx-indication, mode-indication, bus-off-indication, development-error, data-lost, tx-cancellation}
+use Rattle.rules.specs.Configuration.{Configuration, no-configuration}
+use Rattle.rules.specs.State.{Mailbox, State, valid, initial-state, mailbox-at}
+use Rattle.rules.specs.Outcome.{Outcome, full-gate}
+use Rattle.rules.specs.Polls.{Boxes, by-sent, object-in, close, confirm-one, boxes-of, confirmed, main-function-write}
+use Rattle.history.specs.Call.{Call, Init, DeInit, SetControllerMode, GetControllerMode, Write, MainFunctionWrite, MainFunctionRead, MainFunctionMode, MainFunctionBusOff, TxComplete, BusOffDetected, FrameArrived, performed}
+use Rattle.history.specs.Trace.{Step, Left, trace, left-by, is-accepted}
+use Rattle.history.specs.Account.{Account, closed, held, broken, after-write, after-sent, after-notification, after-notifications, is-taken-by, in-force, after-call, compared, account-after, account}
+use Rattle.history.specs.PollRule.{closes, closed-in, StaysOpen, Reported, SentThenPolled, Confirms}
+use Rattle.laws.proofs.Tests.{clash, decide, cond-both}
+use Rattle.laws.proofs.Repeat.{last-or-below}
+use Rattle.laws.proofs.Reasons.{judged-cases, rejected-code}
+use Rattle.laws.proofs.Validity.{valid-facts}
+use Rattle.laws.proofs.Sweeps.{boxes-above}
+use Rattle.laws.proofs.Cancelling.{confirm-step}
+use Rattle.history.proofs.Objects.{Matches, Follows, follows-on, follows-first, unused-empty}
+
+-- neither of two tests holds
+neither : (a b : Bool) → (a || b) ≡ false → (a ≡ false) × (b ≡ false)
+neither true b e = clash refl e
+neither false b e = (refl, e)
+
+-- a notification that does not close the object leaves its account
+unclosed-one : (h : ℕ) (n : Notification) (x : Account) → closes h n ≡ false → after-notification h x n ≡ x
+unclosed-one h (tx-confirmation i handle) x e = rw e
+unclosed-one h (tx-cancellation i handle) x e = rw e
+unclosed-one h (rx-indication i identifier len) x e = refl
+unclosed-one h (mode-indication c m) x e = refl
+unclosed-one h (bus-off-indication c) x e = refl
+unclosed-one h (development-error service error) x e = refl
+unclosed-one h (data-lost i) x e = refl
+
+unclosed : (h : ℕ) (ns : List Notification) (x : Account) → closed-in h ns ≡ false → after-notifications h x ns ≡ x
+unfolding closed-in after-notifications
+unclosed h [] x e = refl
+unclosed h (n ∷ ns) x e =
+    let none-closed = neither (closes h n) (closed-in h ns) e in
+    ap (λ (y : Account). after-notifications h y ns) (unclosed-one h n x (none-closed .0)) ∙ unclosed h ns x (none-closed .1)
+
+reported-front : (n : Notification) (xs ys : List Notification) → Reported n xs → Reported n (xs ++ ys)
+reported-front n [] ys r = absurd r
+reported-front n (x ∷ xs) ys (inl e) = inl e
+reported-front n (x ∷ xs) ys (inr r) = inr (reported-front n xs ys r)
+
+reported-last : (n : Notification) (xs : List Notification) → Reported n (xs ++ (n ∷ []))
+reported-last n [] = inl refl
+reported-last n (x ∷ xs) = inr (reported-last n xs)
+
+module _ (L : Limits) (F : Format) (h : ℕ) where
+  -- a write that is open and sent stays so, or the account breaks
+  call-of-held : (cfg : Configuration F) (k : ℕ) (b : List ℕ) (call : Call F) (o : Outcome F)
+      → (after-call L F h cfg (held k b true) call o ≡ held k b true) ⊎ (after-call L F h cfg (held k b true) call o ≡ broken)
+  call-of-held cfg k b (Write sheet i handle fits frame) o = go (is-accepted o && is-taken-by h (o .answer))
+    where
+      go : (t : Bool) → (cond t broken (held k b true) ≡ held k b true) ⊎ (cond t broken (held k b true) ≡ broken)
+      go true = inr refl
+      go false = inl refl
+  call-of-held cfg k b (TxComplete i) o = go (is-accepted o && eqb i h)
+    where
+      go : (t : Bool) → (cond t broken (held k b true) ≡ held k b true) ⊎ (cond t broken (held k b true) ≡ broken)
+      go true = inr refl
+      go false = inl refl
+  call-of-held cfg k b (Init sheet bytes) o = inl refl
+  call-of-held cfg k b (DeInit sheet) o = inl refl
+  call-of-held cfg k b (SetControllerMode sheet c asked) o = inl refl
+  call-of-held cfg k b (GetControllerMode sheet c) o = inl refl
+  call-of-held cfg k b (MainFunctionWrite sheet) o = inl refl
+  call-of-held cfg k b (MainFunctionRead sheet) o = inl refl
+  call-of-held cfg k b (MainFunctionMode sheet) o = inl refl
+  call-of-held cfg k b (MainFunctionBusOff sheet) o = inl refl
+  call-of-held cfg k b (BusOffDetected c) o = inl refl
+  call-of-held cfg k b (FrameArrived sheet c frame) o = inl refl
+
+  compared-held : (ram : List ℕ) (k : ℕ) (b : List ℕ) → (compared L F h ram (held k b true) ≡ held k b true) ⊎ (compared L F h ram (held k b true) ≡ broken)
+  compared-held ram k b = go (same-bytes (object-in L F ram h) b)
+    where
+      go : (t : Bool) → (cond t (held k b true) broken ≡ held k b true) ⊎ (cond t (held k b true) broken ≡ broken)
+      go true = inl refl
+      go false = inr refl
+
+  -- a broken account agrees with nothing
+  not-broken : (m : Mailbox) (bytes : List ℕ) (a : Account) → Matches L F h m bytes a → a ≡ broken → ⊥
+  not-broken m bytes a p e = subst (λ (x : Account). Matches L F h m bytes x) e p
+
+  module _ (s : State F) (ram : List ℕ) (call : Call F) (o : Outcome F) (unchanged : closed-in h (o .notifications) ≡ false) where
+    -- a sent write stays held
+    held-stays : (cfg : Configuration F) (k : ℕ) (b : List ℕ) → Matches L F h (mailbox-at (o .state .mailboxes) h) (object-in L F (o .ram) h) (account-after L F h cfg (held k b true) call o)
+        → account-after L F h cfg (held k b true) call o ≡ held k b true
+    held-stays cfg k b p = go (call-of-held cfg k b call o) (compared-held (o .ram) k b)
+      where
+        flat : account-after L F h cfg (held k b true) call o ≡ compared L F h (o .ram) (after-call L F h cfg (held k b true) call o)
+        flat = unclosed h (o .notifications) (compared L F h (o .ram) (after-call L F h cfg (held k b true) call o)) unchanged
+
+        breaks : account-after L F h cfg (held k b true) call o ≡ broken → account-after L F h cfg (held k b true) call o ≡ held k b true
+        breaks e = absurd (not-broken (mailbox-at (o .state .mailboxes) h) (object-in L F (o .ram) h) (account-after L F h cfg (held k b true) call o) p e)
+
+        go : (after-call L F h cfg (held k b true) call o ≡ held k b true) ⊎ (after-call L F h cfg (held k b true) call o ≡ broken)
+            → (compared L F h (o .ram) (held k b true) ≡ held k b true) ⊎ (compared L F h (o .ram) (held k b true) ≡ broken)
+            → account-after L F h cfg (held k b true) call o ≡ held k b true
+        go (inl e) (inl f) = flat ∙ ap (λ (x : Account). compared L F h (o .ram) x) e ∙ f
+        go (inl e) (inr f) = breaks (flat ∙ ap (λ (x : Account). compared L F h (o .ram) x) e ∙ f)
+        go (inr e) f = breaks (flat ∙ ap (λ (x : Account). compared L F h (o .ram) x) e)
+
+  -- an accepted sent event leaves a write held and sent
+  pub record Held (a : Account) : Type 0 where
+    pub handle : ℕ
+    pub bytes : List ℕ
+    pub is : a ≡ held handle bytes true
+
+  sent-holds : (cfg : Configuration F) (a : Account) (o : Outcome F) → closed-in h (o .notifications) ≡ false → is-accepted o ≡ true
+      → Matches L F h (mailbox-at (o .state .mailboxes) h) (object-in L F (o .ram) h) (account-after L F h cfg a (TxComplete h) o) → Held (account-after L F h cfg a (TxComplete h) o)
+  sent-holds cfg a o unchanged ok p = go a (flat ∙ ap (λ (t : Bool). compared L F h (o .ram) (cond t (after-sent a) a)) taken) p
+    where
+      flat : account-after L F h cfg a (TxComplete h) o ≡ compared L F h (o .ram) (cond (is-accepted o && eqb h h) (after-sent a) a)
+      flat = unclosed h (o .notifications) (compared L F h (o .ram) (cond (is-accepted o && eqb h h) (after-sent a) a)) unchanged
+
+      taken : (is-accepted o && eqb h h) ≡ true
+      taken = rw (ok, eq-eqb h h refl)
+
+      fails : account-after L F h cfg a (TxComplete h) o ≡ broken → Matches L F h (mailbox-at (o .state .mailboxes) h) (object-in L F (o .ram) h) (account-after L F h cfg a (TxComplete h) o) → Held (account-after L F h cfg a (TxComplete h) o)
+      fails e q = absurd (not-broken (mailbox-at (o .state .mailboxes) h) (object-in L F (o .ram) h) (account-after L F h cfg a (TxComplete h) o) q e)
+
+      go : (x : Account) → account-after L F h cfg a (TxComplete h) o ≡ compared L F h (o .ram) (after-sent x)
+          → Matches L F h (mailbox-at (o .state .mailboxes) h) (object-in L F (o .ram) h) (account-after L F h cfg a (TxComplete h) o) → Held (account-after L F h cfg a (TxComplete h) o)
+      go closed e q = fails e q
+      go broken e q = fails e q
+      go (held k b true) e q = fails e q
+      go (held k b false) e q =
+          ⊎-elim (λ (f : compared L F h (o .ram) (held k b true) ≡ held k b true). record { handle = k; bytes = b; is = e ∙ f }) (λ (f : compared L F h (o .ram) (held k b true) ≡ broken). fails (e ∙ f) q) (compared-held (o .ram) k b)
+
+  -- the configuration in force after a trace
+  unfoldable force-by : Configuration F → List (Step F) → Configuration F
+  force-by cfg [] = cfg
+  force-by cfg (x ∷ xs) = force-by (in-force L F cfg (x .call) (x .outcome)) xs
+
+  follows-list : Lawful L F → (calls : List (Call F)) (s : State F) (ram : List ℕ) (cfg : Configuration F) (a : Account) → Follows L F h s ram cfg a
+      → Follows L F h (left-by L F calls s ram .state) (left-by L F calls s ram .ram) (force-by cfg (trace L F calls s ram)) (account L F h cfg a (trace L F calls s ram))
+  unfolding left-by trace account force-by
+  follows-list lawful [] s ram cfg a f = f
+  follows-list lawful (call ∷ calls) s ram cfg a f = follows-list lawful calls (performed L F call s ram .state) (performed L F call s ram .ram) _ _ (follows-on L F h lawful call s ram cfg a f)
+
+  account-append : (xs ys : List (Call F)) (s : State F) (ram : List ℕ) (cfg : Configuration F) (a : Account)
+      → account L F h cfg a (trace L F (xs ++ ys) s ram) ≡ account L F h (force-by cfg (trace L F xs s ram)) (account L F h cfg a (trace L F xs s ram)) (trace L F ys (left-by L F xs s ram .state) (left-by L F xs s ram .ram))
+  unfolding left-by trace account force-by
+  account-append [] ys s ram cfg a = refl
+  account-append (x ∷ xs) ys s ram cfg a = account-append xs ys (performed L F x s ram .state) (performed L F x s ram .ram) _ _
+
+  -- calls that do not close the object keep a sent write held
+  held-list : Lawful L F → (calls : List (Call F)) (s : State F) (ram : List ℕ) (cfg : Configuration F) (k : ℕ) (b : List ℕ) → Follows L F h s ram cfg (held k b true) → StaysOpen h (trace L F calls s ram)
+      → account L F h cfg (held k b true) (trace L F calls s ram) ≡ held k b true
+  unfolding trace account
+  held-list lawful [] s ram cfg k b f opens = refl
+  held-list lawful (call ∷ calls) s ram cfg k b f opens =
+      let o = performed L F call s ram in
+      let next = follows-on L F h lawful call s ram cfg (held k b true) f in
+      let same = held-stays s ram call o (opens .0) cfg k b (next .matches) in
+      ap (λ (x : Account). account L F h (in-force L F cfg call o) x (trace L F calls (o .state) (o .ram))) same
+      ∙ held-list lawful calls (o .state) (o .ram) (in-force L F cfg call o) k b (subst (λ (x : Account). Follows L F h (o .state) (o .ram) (in-force L F cfg call o) x) same next) (opens .1)
+
+  -- a write poll confirms every sent object
+  confirms : (ram : List ℕ) (n : ℕ) (b : Boxes) → h < n → mailbox-at (b .mailboxes) h .tx-done ≡ true → Reported (tx-confirmation h (F .handle-in (object-in L F ram h))) (rising n (confirm-one L F ram) b .notifications)
+  unfolding rising
+  confirms ram zero b l done = absurd (omega arith)
+  confirms ram (suc n) b l done = ⊎-elim here (λ (k : h < n). later (confirms ram n b k done)) (last-or-below n h l)
+    where
+      here : h ≡ n → Reported (tx-confirmation h (F .handle-in (object-in L F ram h))) (confirm-one L F ram n (rising n (confirm-one L F ram) b) .notifications)
+      here e =
+          let untouched = boxes-above (λ i m. m .tx-done) (confirm-one L F ram) (confirm-step L F ram) b h h (omega arith) in
+          subst (λ (i : ℕ). Reported (tx-confirmation h (F .handle-in (object-in L F ram h))) (confirm-one L F ram i (rising i (confirm-one L F ram) b) .notifications)) e
+          (rw (ap (λ (m : Mailbox). m .tx-done) untouched ∙ done) (reported-last (tx-confirmation h (F .handle-in (object-in L F ram h))) (rising h (confirm-one L F ram) b .notifications)))
+
+      later : Reported (tx-confirmation h (F .handle-in (object-in L F ram h))) (rising n (confirm-one L F ram) b .notifications)
+          → Reported (tx-confirmation h (F .handle-in (object-in L F ram h))) (confirm-one L F ram n (rising n (confirm-one L F ram) b) .notifications)
+      later r =
+          let w = rising n (confirm-one L F ram) b in
+          cond-both (λ (x : Boxes). Reported (tx-confirmation h (F .handle-in (object-in L F ram h))) (x .notifications)) (mailbox-at (w .mailboxes) n .tx-done) (close L F by-sent ram n w) w
+          (λ t. reported-front _ (w .notifications) _ r)
+          (λ t. r)
+
+  -- an accepted write poll reports an object whose write is held and sent
+  poll-reports : (s : State F) (ram : List ℕ) (cfg : Configuration F) (k : ℕ) (b sheet : List ℕ) → Follows L F h s ram cfg (held k b true) → is-accepted (performed L F (MainFunctionWrite sheet) s ram) ≡ true
+      → Reported (tx-confirmation h k) (performed L F (MainFunctionWrite sheet) s ram .notifications)
+  unfolding performed main-function-write confirmed
+  poll-reports s ram cfg k b sheet f ok =
+      let reason = first-reason (full-gate L F s (length sheet) ram) in
+      judged-cases F (λ (o : Outcome F). is-accepted o ≡ true → Reported (tx-confirmation h k) (o .notifications)) reason _ _
+      (λ refused accepted. clash accepted (rejected-code reason refused))
+      (λ r accepted. subst (λ (x : ℕ). Reported (tx-confirmation h x) (rising (s .configuration .object-count) (confirm-one L F ram) (boxes-of L F s) .notifications)) own-handle (confirms ram (s .configuration .object-count) (boxes-of L F s) in-use (f .matches .1)))
+      ok
+    where
+      own-handle : F .handle-in (object-in L F ram h) ≡ k
+      own-handle = ap (F .handle-in) (f .matches .2) ∙ f .matches .3
+
+      in-use : h < s .configuration .object-count
+      in-use = go (decLt h (s .configuration .object-count))
+        where
+          go : Dec (h < s .configuration .object-count) → h < s .configuration .object-count
+          go (yes l) = l
+          go (no l) = clash (f .matches .0) (ap (λ (m : Mailbox). m .tx-pending) (unused-empty L F s (valid-facts L F s (f .sound)) h (omega arith)))
+
+-- a sent event that returns 0, calls that do not close the object, and then a write poll that returns 0: it reports the object
+pub poll-rule : (L : Limits) (F : Format) → Lawful L F → (h : ℕ) (before between : List (Call F)) (ram sheet : List ℕ) → SentThenPolled L F h before between ram sheet → Confirms L F h before between ram sheet
+unfolding left-by trace account
+poll-rule L F lawful h before between ram sheet given =
+    let start = follows-list L F h lawful before (initial-state L F) ram (no-configuration L F) closed (follows-first L F h lawful ram) in
+    let cfg = force-by L F h (no-configuration L F) (trace L F before (initial-state L F) ram) in
+    let a = account L F h (no-configuration L F) closed (trace L F before (initial-state L F) ram) in
+    let s = left-by L F before (initial-state L F) ram .state in
+    let m = left-by L F before (initial-state L F) ram .ram in
+    let o = performed L F (TxComplete h) s m in
+    let next = follows-on L F h lawful (TxComplete h) s m cfg a start in
+    let sent = sent-holds L F h cfg a o (given .open-until .0) (given .sent) (next .matches) in
+    let cfg′ = in-force L F cfg (TxComplete h) o in
+    let f : Follows L F h (o .state) (o .ram) cfg′ (held (sent .handle) (sent .bytes) true) = subst (λ (x : Account). Follows L F h (o .state) (o .ram) cfg′ x) (sent .is) next in
+    let stays = held-list L F h lawful between (o .state) (o .ram) cfg′ (sent .handle) (sent .bytes) f (given .open-until .1) in
+    let last = follows-list L F h lawful between (o .state) (o .ram) cfg′ (held (sent .handle) (sent .bytes) true) f in
+    let g = subst (λ (x : Account). Follows L F h (left-by L F between (o .state) (o .ram) .state) (left-by L F between (o .state) (o .ram) .ram) (force-by L F h cfg′ (trace L F between (o .state) (o .ram))) x) stays last in
+    record {
+      handle = sent .handle;
+      bytes = sent .bytes;
+      own-write =
+          account-append L F h before (TxComplete h ∷ between) (initial-state L F) ram (no-configuration L F) closed
+          ∙ ap (λ (x : Account). account L F h cfg′ x (trace L F between (o .state) (o .ram))) (sent .is) ∙ stays;
+      reported = poll-reports L F h _ _ _ (sent .handle) (sent .bytes) sheet g (given .polled);
+    }

@@ -1,0 +1,122 @@
+-- The account of one object: what its accepted writes, sent events and closing notices must look like.
+-- It is fed calls, return codes, answers, records and memory, and never sees the driver's flags.
+use Prim.Native.Nat.{ℕ}
+use mathlib.Core.Bool.{Bool, true, false, cond, _&&_}
+use mathlib.Core.List.{List, [], _∷_}
+use lib.Dec.{eqb}
+use Rattle.rules.specs.Limits.{Limits}
+use Rattle.rules.specs.Format.{Format}
+use Rattle.rules.specs.Bytes.{same-bytes}
+use Rattle.rules.specs.Notification.{Notification, tx-confirmation, rx-indication, mode-indication, bus-off-indication, development-error, data-lost, tx-cancellation}
+use Rattle.rules.specs.Configuration.{Configuration, object-at, configuration-of, no-configuration}
+use Rattle.rules.specs.Outcome.{Outcome, Answer, no-answer, mode, taken-by, stored-in, unwanted, lost}
+use Rattle.rules.specs.Polls.{object-in}
+use Rattle.history.specs.Call.{Call, Init, DeInit, SetControllerMode, GetControllerMode, Write, MainFunctionWrite, MainFunctionRead, MainFunctionMode, MainFunctionBusOff, TxComplete, BusOffDetected, FrameArrived}
+use Rattle.history.specs.Trace.{Step, is-accepted}
+
+pub data Account : Type 0 where
+  -- no write is open
+  closed : Account
+  -- a write is open: its handle, the bytes that it laid down, and whether a sent event was accepted since
+  held : ℕ → List ℕ → Bool → Account
+  -- something happened that must not
+  broken : Account
+
+-- "writes and closing notices alternate, write first"
+abbrev pub after-write : ℕ → List ℕ → Account → Account
+after-write handle bytes closed = held handle bytes false
+after-write handle bytes (held k b sent) = broken
+after-write handle bytes broken = broken
+
+-- "Between a write and its confirmation lies exactly one accepted sent event": a second one, or one with no write, is wrong
+abbrev pub after-sent : Account → Account
+after-sent closed = broken
+after-sent (held k b sent) = cond sent broken (held k b true)
+after-sent broken = broken
+
+-- a confirmation closes a write that was sent, "each notice carries its own write's handle"
+abbrev pub after-confirmation : ℕ → Account → Account
+after-confirmation handle closed = broken
+after-confirmation handle (held k b sent) = cond (sent && eqb handle k) closed broken
+after-confirmation handle broken = broken
+
+-- a cancellation closes a write, sent or not
+abbrev pub after-cancellation : ℕ → Account → Account
+after-cancellation handle closed = broken
+after-cancellation handle (held k b sent) = cond (eqb handle k) closed broken
+after-cancellation handle broken = broken
+
+-- "A closing notice of an object is a record of kind 1 (a confirmation) or 7 that names it"
+abbrev pub after-notification : ℕ → Account → Notification → Account
+after-notification h a (tx-confirmation i handle) = cond (eqb i h) (after-confirmation handle a) a
+after-notification h a (tx-cancellation i handle) = cond (eqb i h) (after-cancellation handle a) a
+after-notification h a (rx-indication i identifier len) = a
+after-notification h a (mode-indication c m) = a
+after-notification h a (bus-off-indication c) = a
+after-notification h a (development-error service error) = a
+after-notification h a (data-lost i) = a
+
+unfoldable pub after-notifications : ℕ → Account → List Notification → Account
+after-notifications h a [] = a
+after-notifications h a (n ∷ ns) = after-notifications h (after-notification h a n) ns
+
+-- the write belongs to the object that its answer names
+abbrev pub is-taken-by : ℕ → Answer → Bool
+is-taken-by h no-answer = false
+is-taken-by h (mode m) = false
+is-taken-by h (taken-by i) = eqb i h
+is-taken-by h (stored-in i) = false
+is-taken-by h unwanted = false
+is-taken-by h lost = false
+
+module _ (L : Limits) (F : Format) where
+  -- the configuration that the calls have put in force
+  abbrev pub in-force : Configuration F → Call F → Outcome F → Configuration F
+  in-force cfg (Init sheet bytes) o = cond (is-accepted o) (configuration-of L F bytes) cfg
+  in-force cfg (DeInit sheet) o = cond (is-accepted o) (no-configuration L F) cfg
+  in-force cfg (SetControllerMode sheet c asked) o = cfg
+  in-force cfg (GetControllerMode sheet c) o = cfg
+  in-force cfg (Write sheet i handle fits frame) o = cfg
+  in-force cfg (MainFunctionWrite sheet) o = cfg
+  in-force cfg (MainFunctionRead sheet) o = cfg
+  in-force cfg (MainFunctionMode sheet) o = cfg
+  in-force cfg (MainFunctionBusOff sheet) o = cfg
+  in-force cfg (TxComplete i) o = cfg
+  in-force cfg (BusOffDetected c) o = cfg
+  in-force cfg (FrameArrived sheet c frame) o = cfg
+
+  -- accepted writes to object h, and accepted sent events for it
+  abbrev pub after-call : ℕ → Configuration F → Account → Call F → Outcome F → Account
+  after-call h cfg a (Write sheet i handle fits frame) o =
+      cond (is-accepted o && is-taken-by h (o .answer)) (after-write handle (F .object-bytes (object-at L F cfg h .settings) handle frame) a) a
+  after-call h cfg a (TxComplete i) o = cond (is-accepted o && eqb i h) (after-sent a) a
+  after-call h cfg a (Init sheet bytes) o = a
+  after-call h cfg a (DeInit sheet) o = a
+  after-call h cfg a (SetControllerMode sheet c asked) o = a
+  after-call h cfg a (GetControllerMode sheet c) o = a
+  after-call h cfg a (MainFunctionWrite sheet) o = a
+  after-call h cfg a (MainFunctionRead sheet) o = a
+  after-call h cfg a (MainFunctionMode sheet) o = a
+  after-call h cfg a (MainFunctionBusOff sheet) o = a
+  after-call h cfg a (BusOffDetected c) o = a
+  after-call h cfg a (FrameArrived sheet c frame) o = a
+
+  -- "The 72 bytes are compared at the end of every call from the write to the one that closes it"
+  abbrev pub compared : ℕ → List ℕ → Account → Account
+  compared h ram closed = closed
+  compared h ram (held k b sent) = cond (same-bytes (object-in L F ram h) b) (held k b sent) broken
+  compared h ram broken = broken
+
+  -- one call: the write or sent event that it is, then its memory, then its notices
+  abbrev pub account-after : ℕ → Configuration F → Account → Call F → Outcome F → Account
+  account-after h cfg a c o = after-notifications h (compared h (o .ram) (after-call h cfg a c o)) (o .notifications)
+
+  unfoldable pub account : ℕ → Configuration F → Account → List (Step F) → Account
+  account h cfg a [] = a
+  account h cfg a (x ∷ xs) = account h (in-force cfg (x .call) (x .outcome)) (account-after h cfg a (x .call) (x .outcome)) xs
+
+-- no rule was broken; a broken account stays broken
+abbrev pub intact : Account → Bool
+intact closed = true
+intact (held k b sent) = true
+intact broken = false

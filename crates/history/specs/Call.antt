@@ -1,0 +1,49 @@
+-- The calls of a list. 01, "The words of demand 3": "Its list may hold each service, each poll and each bench event."
+use Prim.Native.Nat.{ℕ, _<_, _^_}
+use mathlib.Core.List.{List}
+use lib.ListN.{length}
+use Rattle.rules.specs.Limits.{Limits}
+use Rattle.rules.specs.Format.{Format}
+use Rattle.rules.specs.State.{State}
+use Rattle.rules.specs.Outcome.{Outcome}
+use Rattle.rules.specs.Services as services
+use Rattle.rules.specs.Polls as polls
+use Rattle.rules.specs.Events as events
+
+-- "Each call brings its own inputs and, where it takes one, its own sheet, of any length and content." The sheet comes first.
+pub data Call (F : Format) : Type 0 where
+  -- configuration bytes
+  Init : List ℕ → List ℕ → Call F
+  DeInit : List ℕ → Call F
+  -- controller, mode asked for
+  SetControllerMode : List ℕ → ℕ → ℕ → Call F
+  -- controller
+  GetControllerMode : List ℕ → ℕ → Call F
+  -- object, handle of 16 bits, frame
+  Write : List ℕ → ℕ → (handle : ℕ) → handle < 2 ^ 16 → F .Frame → Call F
+  MainFunctionWrite : List ℕ → Call F
+  MainFunctionRead : List ℕ → Call F
+  MainFunctionMode : List ℕ → Call F
+  MainFunctionBusOff : List ℕ → Call F
+  -- object
+  TxComplete : ℕ → Call F
+  -- controller
+  BusOffDetected : ℕ → Call F
+  -- controller, frame
+  FrameArrived : List ℕ → ℕ → F .Frame → Call F
+
+module _ (L : Limits) (F : Format) where
+  -- what the call leaves of this state and this memory
+  unfoldable pub performed : Call F → State F → List ℕ → Outcome F
+  performed (Init sheet bytes) s ram = services.init L F s (length sheet) ram bytes
+  performed (DeInit sheet) s ram = services.deinit L F s (length sheet) ram
+  performed (SetControllerMode sheet c asked) s ram = services.set-controller-mode L F s (length sheet) ram c asked
+  performed (GetControllerMode sheet c) s ram = services.get-controller-mode L F s (length sheet) ram c
+  performed (Write sheet h handle fits frame) s ram = services.write L F s (length sheet) ram h handle frame
+  performed (MainFunctionWrite sheet) s ram = polls.main-function-write L F s (length sheet) ram
+  performed (MainFunctionRead sheet) s ram = polls.main-function-read L F s (length sheet) ram
+  performed (MainFunctionMode sheet) s ram = polls.main-function-mode L F s (length sheet) ram
+  performed (MainFunctionBusOff sheet) s ram = polls.main-function-bus-off L F s (length sheet) ram
+  performed (TxComplete h) s ram = events.tx-complete L F s ram h
+  performed (BusOffDetected c) s ram = events.bus-off-detected L F s ram c
+  performed (FrameArrived sheet c frame) s ram = events.frame-arrived L F s (length sheet) ram c frame

@@ -1,0 +1,82 @@
+-- Demand 3: a single claim about any list of calls.
+use Prim.Native.Nat.{ℕ, _≤_}
+use mathlib.Core.Path.{_≡_}
+use mathlib.Core.Bool.{Bool, true, false, _&&_}
+use mathlib.Core.List.{List, [], _∷_}
+use lib.ListN.{length}
+use lib.Dec.{eqb}
+use Rattle.rules.specs.Limits.{Limits, notification-limit}
+use Rattle.rules.specs.Format.{Format}
+use Rattle.rules.specs.Mode.{permitted}
+use Rattle.rules.specs.Configuration.{no-configuration}
+use Rattle.rules.specs.State.{State, controller-at, initial-state}
+use Rattle.rules.specs.Outcome.{Outcome, Answer, mode}
+use Rattle.history.specs.Call.{Call, Init, DeInit, SetControllerMode, GetControllerMode, Write, MainFunctionWrite, MainFunctionRead, MainFunctionMode, MainFunctionBusOff, TxComplete, BusOffDetected, FrameArrived}
+use Rattle.history.specs.Trace.{Step, trace, is-accepted}
+use Rattle.history.specs.Account.{closed, account, intact}
+use Rattle.history.specs.Reference.{Reference, at-first, takes-wish, reference-after}
+
+module _ (L : Limits) (F : Format) where
+  -- the call is a question for controller c's mode
+  abbrev pub asks-mode : ℕ → Call F → Bool
+  asks-mode c (GetControllerMode sheet k) = eqb k c
+  asks-mode c (Init sheet bytes) = false
+  asks-mode c (DeInit sheet) = false
+  asks-mode c (SetControllerMode sheet k asked) = false
+  asks-mode c (Write sheet h handle fits frame) = false
+  asks-mode c (MainFunctionWrite sheet) = false
+  asks-mode c (MainFunctionRead sheet) = false
+  asks-mode c (MainFunctionMode sheet) = false
+  asks-mode c (MainFunctionBusOff sheet) = false
+  asks-mode c (TxComplete h) = false
+  asks-mode c (BusOffDetected k) = false
+  asks-mode c (FrameArrived sheet k frame) = false
+
+  abbrev pub is-mode-poll : Call F → Bool
+  is-mode-poll (MainFunctionMode sheet) = true
+  is-mode-poll (Init sheet bytes) = false
+  is-mode-poll (DeInit sheet) = false
+  is-mode-poll (SetControllerMode sheet k asked) = false
+  is-mode-poll (GetControllerMode sheet k) = false
+  is-mode-poll (Write sheet h handle fits frame) = false
+  is-mode-poll (MainFunctionWrite sheet) = false
+  is-mode-poll (MainFunctionRead sheet) = false
+  is-mode-poll (MainFunctionBusOff sheet) = false
+  is-mode-poll (TxComplete h) = false
+  is-mode-poll (BusOffDetected k) = false
+  is-mode-poll (FrameArrived sheet k frame) = false
+
+  -- one call against the reference modes of controller c, before it (r) and after it (next)
+  pub record ModeKept (c : ℕ) (r next : Reference) (call : Call F) (o : Outcome F) : Type 0 where
+    -- "The modes in the driver state .. equal the book's."
+    pub in-state : controller-at (o .state .controllers) c .mode ≡ next .mode
+    -- ".. and GetControllerMode's answer where it returns 0"
+    pub answered : (is-accepted o && asks-mode c call) ≡ true → o .answer ≡ mode (next .mode)
+    -- "Each wish that a mode poll takes is a request permitted from the mode that it replaces."
+    pub wish-permitted : (is-accepted o && is-mode-poll call && takes-wish r) ≡ true → permitted (r .mode) (r .wish) ≡ true
+
+  -- "After each call, every controller's mode is the one in 01's mode book."
+  abbrev pub ModesKept : ℕ → Reference → List (Step F) → Type 0
+  ModesKept c r [] = Unit {0}
+  ModesKept c r (x ∷ xs) =
+      ModeKept c r (reference-after L F c r (x .call) (x .outcome)) (x .call) (x .outcome)
+      × ModesKept c (reference-after L F c r (x .call) (x .outcome)) xs
+
+  -- "No call writes more than 36 records."
+  abbrev pub NotificationsBounded : List (Step F) → Type 0
+  NotificationsBounded [] = Unit {0}
+  NotificationsBounded (x ∷ xs) = (length (x .outcome .notifications) ≤ notification-limit L) × NotificationsBounded xs
+
+  -- the trace of a list of calls from before initialisation
+  abbrev pub history : List (Call F) → List ℕ → List (Step F)
+  history calls ram = trace L F calls (initial-state L F) ram
+
+  -- "Take any list of services, polls and bench events, refused ones included, from the sound state before initialisation and any
+  -- mailbox memory."
+  pub record Demand3 (calls : List (Call F)) (ram : List ℕ) : Type 0 where
+    -- "For each object, the writes accepted under demand 2 and the closing notices alternate, write first, and each notice carries its
+    -- own write's handle. From a write until its notice the object's 72 bytes are exactly those that the write laid down. Between a
+    -- write and its confirmation lies exactly one accepted sent event for that object."
+    pub objects : (h : ℕ) → intact (account L F h (no-configuration L F) closed (history calls ram)) ≡ true
+    pub modes : (c : ℕ) → ModesKept c at-first (history calls ram)
+    pub bounded : NotificationsBounded (history calls ram)

@@ -1,0 +1,1 @@
+// The claim about any list of calls, with no code: specs/Claim.antt states it, proofs/ proves it.
