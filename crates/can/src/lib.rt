@@ -1,0 +1,85 @@
+// The CAN driver: everything that a user calls.
+//
+// The driver keeps nothing of its own. Each call takes the state by value and hands the next one back, and borrows what the paper
+// lends it: the message RAM (`ram`, RAM_SIZE bytes) and the notification sheet (`sheet`, at least SHEET_SIZE words). A caller checks
+// nothing first: any numbers, lengths and state are taken, and a call that is refused changes neither state nor RAM and says why.
+//
+//     let mut ram = [0u8; can::RAM_SIZE];
+//     let mut sheet = [0u32; can::SHEET_SIZE];
+//     let state = can::initial_state();
+//     let called = can::init(state, &mut ram, &mut sheet, &bytes);
+//     let called = can::set_controller_mode(called.state, &mut sheet, 0, 1);
+//     let called = can::main_function_mode(called.state, &ram, &mut sheet);
+//
+// After a call, `notifications` says how many notifications stand on the sheet from word 0 on, four words each:
+// the kind, then object or controller and what goes with it (docs/ARCHITECTURE.md has the table).
+
+// The sizes of this chip.
+pub use chip::CONTROLLERS;
+pub use chip::OBJECT_SIZE;
+pub use chip::OBJECTS;
+pub use chip::RAM_SIZE;
+pub use chip::SHEET_SIZE;
+
+// The driver state and its parts, and the state before initialisation.
+pub use places::controller::Controller;
+pub use places::mailbox::Mailbox;
+pub use places::object::ObjectConfig;
+pub use places::state::State;
+pub use places::state::initial_state;
+
+// What the calls answer: a verdict or a reply, why a call is refused, and the numbers of both.
+pub use answers::called::Arrived;
+pub use answers::called::Called;
+pub use answers::called::ModeAsked;
+pub use answers::called::Written;
+pub use answers::rejection::Rejection;
+pub use answers::rejection::reason;
+pub use answers::reply::ArrivalReply;
+pub use answers::reply::ModeReply;
+pub use answers::reply::WriteReply;
+pub use answers::reply::arrival_verdict;
+pub use answers::reply::mode_verdict;
+pub use answers::reply::write_verdict;
+pub use answers::verdict::Verdict;
+pub use answers::verdict::return_code;
+pub use answers::verdict::verdict_reason;
+
+// Init: takes a configuration from bytes. Controllers are STOPPED afterwards, and the RAM is zero.
+pub use services::init::init;
+
+// DeInit: back to the state before Init, unless a controller is STARTED.
+pub use services::deinit::deinit;
+
+// SetControllerMode: asks for STARTED (1), STOPPED (2) or SLEEP (3); the next mode poll takes the request.
+pub use services::set_controller_mode::set_controller_mode;
+
+// GetControllerMode: the mode that a controller is in now.
+pub use services::get_controller_mode::get_controller_mode;
+
+// Write: lays a frame down in a sending object, whole, and keeps the object until the frame is confirmed or cancelled.
+pub use services::write::write;
+
+// Write poll: confirms every frame that was sent, and frees its object.
+pub use polls::write::main_function_write;
+
+// Read poll: indicates every frame that was received, and empties its object.
+pub use polls::read::main_function_read;
+
+// Mode poll: carries out the waiting requests; a controller that leaves STARTED has its frames cancelled first.
+pub use polls::mode::main_function_mode;
+
+// Bus-off poll: cancels the frames of every controller that went off the bus, and stops it.
+pub use polls::bus_off::main_function_bus_off;
+
+// Sent: the simulated controller has sent the frame of an object.
+pub use events::tx_complete::tx_complete;
+
+// Bus-off: the simulated controller went off the bus.
+pub use events::bus_off_detected::bus_off_detected;
+
+// Arrived: a frame came in. It is stored, unwanted or lost.
+pub use events::frame_arrived::frame_arrived;
+
+// Data of an object: the part of the RAM that holds its data.
+pub use layout::read::data_of;

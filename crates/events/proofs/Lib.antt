@@ -1,0 +1,4 @@
+-- Laws that several proofs of this crate cite.
+pub mod Laws
+pub mod Picks
+pub mod Arrivals

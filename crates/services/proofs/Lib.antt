@@ -1,0 +1,3 @@
+-- Laws of the services.
+pub mod Laws
+pub mod Writes
