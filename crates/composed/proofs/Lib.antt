@@ -1,0 +1,2 @@
+-- Laws of calls in a row.
+pub mod Laws
