@@ -1,0 +1,165 @@
+//! The bench: the driver state, its own memory and the lengths it lends.
+
+use crate::events::Arrival;
+use crate::limits::{MEMORY_BYTES, RECORD_WORDS, SHEET_WORDS};
+use crate::mailbox;
+use crate::mode::Mode;
+use crate::outcome::Outcome;
+use crate::script::{Call, Command, Poll, LONGEST_SHEET};
+use crate::state::State;
+
+/// What a call answers besides code and reason.
+#[derive(Clone, Copy, Debug, PartialEq, Eq)]
+pub enum Answer {
+    None,
+    Mode(u32),
+    Object(u32),
+    Arrival(Arrival),
+}
+
+/// What came of a command.
+#[derive(Debug, PartialEq, Eq)]
+pub enum Played<'a> {
+    /// `sheet` and `memory` answer nothing.
+    Nothing,
+    /// A service, poll or event, with its records.
+    Call { name: &'static str, code: u32, reason: u32, answer: Answer, records: &'a [u32] },
+    /// The data of an object.
+    Data(&'a [u8]),
+    /// The 72 bytes of an object, if there is such an object.
+    Show(Option<&'a [u8]>),
+    /// The whole state.
+    State(&'a State),
+}
+
+/// The desk bench. It keeps its own 2,304 bytes and lends as many as asked for.
+pub struct Bench {
+    state: State,
+    memory: [u8; MEMORY_BYTES],
+    memory_lent: usize,
+    sheet: Vec<u32>,
+    sheet_lent: usize,
+    /// Holds a lent memory that is longer than the bench's own.
+    long_memory: Vec<u8>,
+}
+
+impl Default for Bench {
+    fn default() -> Bench {
+        Bench {
+            state: State::default(),
+            memory: [0; MEMORY_BYTES],
+            memory_lent: MEMORY_BYTES,
+            sheet: vec![0; LONGEST_SHEET as usize],
+            sheet_lent: SHEET_WORDS,
+            long_memory: Vec::new(),
+        }
+    }
+}
+
+impl Bench {
+    /// The driver state.
+    pub fn state(&self) -> &State {
+        &self.state
+    }
+
+    /// The bench's own memory.
+    pub fn memory(&self) -> &[u8] {
+        &self.memory
+    }
+
+    /// True if the lengths lent are such that no call is refused for them.
+    pub fn lends_enough(&self) -> bool {
+        self.sheet_lent >= SHEET_WORDS && self.memory_lent == MEMORY_BYTES
+    }
+
+    /// The words of the sheet lent at present.
+    pub fn sheet_lent(&self) -> usize {
+        self.sheet_lent
+    }
+
+    /// Plays one command.
+    pub fn play(&mut self, command: Command) -> Played<'_> {
+        match command {
+            Command::Call(call) => self.play_call(call),
+            Command::Sheet { words } => {
+                self.sheet_lent = words;
+                Played::Nothing
+            }
+            Command::Memory { bytes } => {
+                self.memory_lent = bytes;
+                Played::Nothing
+            }
+            Command::Show { object } => Played::Show(mailbox::object_bytes(&self.memory, object)),
+            Command::State => Played::State(&self.state),
+        }
+    }
+
+    /// Plays one call with the sheet and memory lent at present.
+    fn play_call(&mut self, call: Call) -> Played<'_> {
+        let state = &mut self.state;
+        let sheet = &mut self.sheet[..self.sheet_lent];
+        let memory = lend(&mut self.memory, self.memory_lent, &mut self.long_memory);
+        match call {
+            Call::Init { bytes } => plain("init", state.init(bytes, sheet, memory), sheet),
+            Call::DeInit => plain("deinit", state.deinit(sheet, memory), sheet),
+            Call::Set { controller, mode } => {
+                plain("set", state.set_mode(controller, mode, sheet), sheet)
+            }
+            Call::Get { controller } => {
+                let outcome = state.get_mode(controller, sheet);
+                let mode = outcome.result.map_or(0, Mode::number);
+                answered("get", outcome, Answer::Mode(mode), sheet)
+            }
+            Call::Write { object, handle, identifier, data } => {
+                let outcome = state.write(object, handle, identifier, data, sheet, memory);
+                let answer = outcome.result.map_or(Answer::None, Answer::Object);
+                answered("write", outcome, answer, sheet)
+            }
+            Call::Poll(Poll::Write) => plain("poll-write", state.poll_write(sheet, memory), sheet),
+            Call::Poll(Poll::Read) => plain("poll-read", state.poll_read(sheet, memory), sheet),
+            Call::Poll(Poll::Mode) => plain("poll-mode", state.poll_mode(sheet, memory), sheet),
+            Call::Poll(Poll::BusOff) => {
+                plain("poll-busoff", state.poll_bus_off(sheet, memory), sheet)
+            }
+            Call::Sent { object } => plain("sent", state.sent(object), sheet),
+            Call::BusOff { controller } => plain("busoff", state.bus_off(controller), sheet),
+            Call::Arrived { controller, identifier, data } => {
+                let outcome = state.arrived(controller, identifier, data, sheet, memory);
+                let answer = outcome.result.map_or(Answer::None, Answer::Arrival);
+                answered("arrived", outcome, answer, sheet)
+            }
+            Call::Data { object } => Played::Data(mailbox::data_of(memory, object)),
+        }
+    }
+}
+
+/// A shorter memory lends the first bytes, a longer one the whole followed by zeros.
+fn lend<'a>(
+    own: &'a mut [u8; MEMORY_BYTES],
+    length: usize,
+    long_memory: &'a mut Vec<u8>,
+) -> &'a mut [u8] {
+    if length <= MEMORY_BYTES {
+        return &mut own[..length];
+    }
+    long_memory.clear();
+    long_memory.extend_from_slice(own);
+    long_memory.resize(length, 0);
+    long_memory
+}
+
+/// A call with an answer of its own.
+fn answered<'a, T>(
+    name: &'static str,
+    outcome: Outcome<T>,
+    answer: Answer,
+    sheet: &'a [u32],
+) -> Played<'a> {
+    let records = &sheet[..outcome.records * RECORD_WORDS];
+    Played::Call { name, code: outcome.code(), reason: outcome.reason(), answer, records }
+}
+
+/// A call that answers code and reason only.
+fn plain<'a>(name: &'static str, outcome: Outcome<()>, sheet: &'a [u32]) -> Played<'a> {
+    answered(name, outcome, Answer::None, sheet)
+}

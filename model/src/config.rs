@@ -1,0 +1,304 @@
+//! Configuration bytes and what they say ("Configuration bytes").
+
+use crate::identifier::{EXTENDED, EXTENDED_ONLY, FD, SPARE};
+use crate::limits::{CONTROLLERS, OBJECTS};
+
+/// The three bytes "CHB", then version 00 01.
+const START: [u8; 5] = [0x43, 0x48, 0x42, 0x00, 0x01];
+const HEADER_BYTES: usize = 8;
+const RECORD_BYTES: usize = 12;
+
+/// Whether an object sends or receives.
+#[derive(Clone, Copy, Debug, Default, PartialEq, Eq)]
+pub enum Kind {
+    #[default]
+    Sending = 0,
+    Receiving = 1,
+}
+
+/// The configuration of one object; all zero is the place at rest.
+#[derive(Clone, Copy, Debug, Default, PartialEq, Eq)]
+pub struct ObjectConfig {
+    pub controller: u8,
+    pub kind: Kind,
+    pub payload: u8,
+    pub padding: u8,
+    pub code: u32,
+    pub mask: u32,
+}
+
+impl ObjectConfig {
+    /// Decodes one record of 12 bytes; only an unknown kind cannot be decoded.
+    fn decode(record: &[u8]) -> Option<ObjectConfig> {
+        let kind = match record[1] {
+            0 => Kind::Sending,
+            1 => Kind::Receiving,
+            _ => return None,
+        };
+        Some(ObjectConfig {
+            controller: record[0],
+            kind,
+            payload: record[2],
+            padding: record[3],
+            code: big_endian(&record[4..8]),
+            mask: big_endian(&record[8..12]),
+        })
+    }
+
+    /// The rules for one record, given the number of controllers.
+    fn is_acceptable(&self, controllers: u8) -> bool {
+        let own_rules = match self.kind {
+            Kind::Sending => self.code == 0 && self.mask == 0,
+            Kind::Receiving => self.padding == 0 && self.filter_is_acceptable(),
+        };
+        self.controller < controllers && matches!(self.payload, 8 | 64) && own_rules
+    }
+
+    /// Code bits 30 and 29 zero; mask bits 31 to 29 zero; if code bit 31 is
+    /// clear, bits 28 to 11 of code and mask zero.
+    fn filter_is_acceptable(&self) -> bool {
+        let standard = self.code & EXTENDED == 0;
+        self.code & (FD | SPARE) == 0
+            && self.mask & (EXTENDED | FD | SPARE) == 0
+            && !(standard && (self.code | self.mask) & EXTENDED_ONLY != 0)
+    }
+}
+
+/// An accepted configuration; all zero is the configuration at rest.
+#[derive(Clone, Debug, Default, PartialEq, Eq)]
+pub struct Config {
+    controllers: u8,
+    objects: u8,
+    places: [ObjectConfig; OBJECTS],
+}
+
+impl Config {
+    /// Reads configuration bytes; `None` is a bad configuration (reason 9).
+    pub fn read(bytes: &[u8]) -> Option<Config> {
+        let (header, records) = bytes.split_at_checked(HEADER_BYTES)?;
+        let (controllers, objects) = (header[5], header[6]);
+        let length = RECORD_BYTES * usize::from(objects);
+        if header[..5] != START || header[7] != 0 || records.len() != length {
+            return None;
+        }
+        let mut config = Config { controllers, objects, ..Config::default() };
+        for (place, record) in config.places.iter_mut().zip(records.chunks_exact(RECORD_BYTES)) {
+            *place = ObjectConfig::decode(record)?;
+        }
+        config.is_acceptable().then_some(config)
+    }
+
+    /// One that Init accepts: counts in range, every record good, unused places at rest.
+    pub fn is_acceptable(&self) -> bool {
+        let count = usize::from(self.objects);
+        (1..=CONTROLLERS).contains(&usize::from(self.controllers))
+            && count <= OBJECTS
+            && self.places[..count].iter().all(|place| place.is_acceptable(self.controllers))
+            && self.places[count..].iter().all(|place| *place == ObjectConfig::default())
+    }
+
+    /// Controllers in use.
+    pub fn controllers(&self) -> usize {
+        usize::from(self.controllers)
+    }
+
+    /// Objects in use, in rising order.
+    pub fn objects(&self) -> &[ObjectConfig] {
+        &self.places[..usize::from(self.objects)]
+    }
+
+    /// The object with this number, if it is configured.
+    pub fn object(&self, object: u32) -> Option<&ObjectConfig> {
+        self.objects().get(usize::try_from(object).ok()?)
+    }
+}
+
+/// Numbers of several bytes are big-endian everywhere.
+fn big_endian(bytes: &[u8]) -> u32 {
+    bytes.iter().fold(0, |number, &byte| number << 8 | u32::from(byte))
+}
+
+#[cfg(test)]
+mod tests {
+    use super::*;
+
+    /// The paper's configuration K.
+    const K: [u8; 32] = [
+        0x43, 0x48, 0x42, 0x00, 0x01, 0x01, 0x02, 0x00, //
+        0x00, 0x00, 0x40, 0xCC, 0, 0, 0, 0, 0, 0, 0, 0, //
+        0x00, 0x01, 0x08, 0x00, 0x00, 0x00, 0x01, 0x20, 0x00, 0x00, 0x07, 0xFF,
+    ];
+
+    fn accepted(bytes: &[u8]) -> bool {
+        Config::read(bytes).is_some()
+    }
+
+    /// K with the byte at `at` replaced.
+    fn k_with(at: usize, byte: u8) -> Vec<u8> {
+        let mut bytes = K.to_vec();
+        bytes[at] = byte;
+        bytes
+    }
+
+    /// One object on one controller, receiving, with this filter.
+    fn receiving(code: u32, mask: u32) -> Vec<u8> {
+        let mut bytes = vec![0x43, 0x48, 0x42, 0, 1, 1, 1, 0, 0, 1, 64, 0];
+        bytes.extend(code.to_be_bytes());
+        bytes.extend(mask.to_be_bytes());
+        bytes
+    }
+
+    /// A header for these counts and as many plain sending records.
+    fn counts(controllers: u8, objects: u8) -> Vec<u8> {
+        let mut bytes = vec![0x43, 0x48, 0x42, 0, 1, controllers, objects, 0];
+        for _ in 0..objects {
+            bytes.extend([0, 0, 8, 0x55, 0, 0, 0, 0, 0, 0, 0, 0]);
+        }
+        bytes
+    }
+
+    #[test]
+    fn k_is_read_as_written() {
+        let config = Config::read(&K).expect("K is accepted");
+        assert_eq!(config.controllers(), 1);
+        assert_eq!(
+            config.objects(),
+            [
+                ObjectConfig { payload: 64, padding: 0xCC, ..ObjectConfig::default() },
+                ObjectConfig {
+                    kind: Kind::Receiving,
+                    payload: 8,
+                    code: 0x120,
+                    mask: 0x7FF,
+                    ..ObjectConfig::default()
+                },
+            ]
+        );
+        assert!(config.object(1).is_some());
+        assert!(config.object(2).is_none());
+        assert!(config.object(u32::MAX).is_none());
+    }
+
+    #[test]
+    fn every_wrong_byte_of_the_fixed_header_is_bad() {
+        for at in [0, 1, 2, 3, 4, 7] {
+            for byte in 0..=255 {
+                assert_eq!(accepted(&k_with(at, byte)), byte == K[at], "byte {at} = {byte}");
+            }
+        }
+    }
+
+    #[test]
+    fn one_to_four_controllers() {
+        for controllers in 0..=255 {
+            let good = (1..=4).contains(&controllers);
+            assert_eq!(accepted(&counts(controllers, 0)), good, "{controllers} controllers");
+            assert_eq!(accepted(&counts(controllers, 3)), good, "{controllers} controllers");
+        }
+    }
+
+    #[test]
+    fn zero_to_32_objects() {
+        for objects in 0..=255 {
+            assert_eq!(accepted(&counts(1, objects)), objects <= 32, "{objects} objects");
+        }
+    }
+
+    #[test]
+    fn the_total_is_exactly_8_plus_12n() {
+        for length in 0..K.len() {
+            assert!(!accepted(&K[..length]), "cut to {length}");
+        }
+        for extra in 1..=24 {
+            let mut bytes = K.to_vec();
+            bytes.resize(K.len() + extra, 0);
+            assert!(!accepted(&bytes), "longer by {extra}");
+        }
+        assert!(!accepted(&k_with(6, 1)));
+        assert!(!accepted(&k_with(6, 3)));
+    }
+
+    #[test]
+    fn the_controller_is_below_the_count() {
+        for count in 1..=4 {
+            for controller in 0..=255 {
+                let mut bytes = counts(count, 2);
+                bytes[20] = controller;
+                assert_eq!(accepted(&bytes), controller < count);
+            }
+        }
+    }
+
+    #[test]
+    fn kind_is_0_or_1() {
+        for kind in 0..=255 {
+            let mut bytes = receiving(0, 0);
+            bytes[9] = kind;
+            assert_eq!(accepted(&bytes), kind <= 1, "kind {kind}");
+        }
+    }
+
+    #[test]
+    fn payload_is_8_or_64() {
+        for payload in 0..=255 {
+            for at in [10, 22] {
+                assert_eq!(accepted(&k_with(at, payload)), payload == 8 || payload == 64);
+            }
+        }
+    }
+
+    #[test]
+    fn only_sending_objects_have_a_padding_value() {
+        for padding in 0..=255 {
+            assert!(accepted(&k_with(11, padding)));
+            assert_eq!(accepted(&k_with(23, padding)), padding == 0);
+        }
+    }
+
+    #[test]
+    fn sending_objects_have_no_filter() {
+        for at in 12..20 {
+            for bit in 0..8 {
+                assert!(!accepted(&k_with(at, 1 << bit)), "byte {at} bit {bit}");
+            }
+        }
+    }
+
+    #[test]
+    fn standard_filters_use_bits_10_to_0() {
+        for bit in 0..32 {
+            assert_eq!(accepted(&receiving(1 << bit, 0)), bit <= 10 || bit == 31, "code bit {bit}");
+            assert_eq!(accepted(&receiving(0, 1 << bit)), bit <= 10, "mask bit {bit}");
+        }
+        assert!(accepted(&receiving(0x7FF, 0x7FF)));
+    }
+
+    #[test]
+    fn extended_filters_use_bits_28_to_0() {
+        for bit in 0..31 {
+            assert_eq!(accepted(&receiving(EXTENDED | 1 << bit, 0)), bit <= 28, "code bit {bit}");
+        }
+        for bit in 0..32 {
+            assert_eq!(accepted(&receiving(EXTENDED, 1 << bit)), bit <= 28, "mask bit {bit}");
+        }
+        assert!(accepted(&receiving(0x9FFF_FFFF, 0x1FFF_FFFF)));
+    }
+
+    #[test]
+    fn every_record_is_judged() {
+        for record in 0..32 {
+            let mut bytes = counts(4, 32);
+            assert!(accepted(&bytes));
+            bytes[8 + 12 * record + 2] = 9;
+            assert!(!accepted(&bytes), "record {record}");
+        }
+    }
+
+    #[test]
+    fn a_configuration_at_rest_is_not_acceptable() {
+        assert!(!Config::default().is_acceptable());
+        let mut config = Config::read(&K).expect("K is accepted");
+        config.places[31].payload = 8;
+        assert!(!config.is_acceptable(), "an unused place is not at rest");
+    }
+}

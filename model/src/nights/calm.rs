@@ -1,0 +1,291 @@
+//! Calm commands: mostly what the bench would accept next.
+
+use super::frames::{
+    arriving_length, fitting_identifier, good_identifier, handle, hex, identifier_word,
+    number_word, random_bytes_word, written_length,
+};
+use super::{configs, Maker, Style};
+use crate::config::{Kind, ObjectConfig};
+use crate::identifier::FD;
+use crate::mode::Mode;
+use crate::state::{ControllerPlace, ObjectPlace, State};
+
+/// What a calm night does.
+#[derive(Clone, Copy)]
+enum Action {
+    Write,
+    Sent,
+    Arrived,
+    PollWrite,
+    PollRead,
+    PollMode,
+    PollBusOff,
+    Set,
+    Get,
+    BusOff,
+    Look,
+    BadMoment,
+}
+
+const ACTIONS: [(usize, Action); 12] = [
+    (240, Action::Write),
+    (170, Action::Sent),
+    (190, Action::Arrived),
+    (70, Action::PollWrite),
+    (70, Action::PollRead),
+    (60, Action::PollMode),
+    (20, Action::PollBusOff),
+    (70, Action::Set),
+    (30, Action::Get),
+    (6, Action::BusOff),
+    (40, Action::Look),
+    (30, Action::BadMoment),
+];
+
+impl Maker {
+    /// The next calm command.
+    pub(super) fn calm_command(&mut self) -> String {
+        if !self.state().initialised {
+            self.winding_down = false;
+            return self.command_before_init();
+        }
+        let stay = match self.style {
+            Style::Calm => 400,
+            Style::Wild => 100,
+        };
+        if self.rng.one_in(stay) {
+            self.winding_down = true;
+        }
+        if self.winding_down && self.rng.percent(40) {
+            return self.wind_down();
+        }
+        loop {
+            let action = self.rng.weighted(&ACTIONS);
+            if let Some(command) = self.act(action) {
+                return command;
+            }
+        }
+    }
+
+    fn state(&self) -> &State {
+        self.bench().state()
+    }
+
+    /// Mostly Init, in a wild night often a broken one; now and then a call
+    /// that comes too early.
+    fn command_before_init(&mut self) -> String {
+        if self.style == Style::Wild && self.rng.percent(70) {
+            let bytes = configs::broken(&mut self.rng);
+            return format!("init {}", hex(&bytes, false));
+        }
+        if self.rng.percent(70) {
+            return self.init();
+        }
+        match self.rng.below(6) {
+            0 => "deinit".to_string(),
+            1 => format!("get {}", self.rng.below(4)),
+            2 => format!("set {} STARTED", self.rng.below(4)),
+            3 => format!("poll {}", self.rng.pick(["write", "read", "mode", "busoff"])),
+            4 => format!("sent {}", self.rng.below(32)),
+            _ => self.look(),
+        }
+    }
+
+    fn init(&mut self) -> String {
+        let bytes = configs::good(&mut self.rng);
+        format!("init {}", hex(&bytes, self.rng.percent(20)))
+    }
+
+    /// The next step towards a DeInit: handle bus-offs, stop every controller.
+    fn wind_down(&mut self) -> String {
+        let state = self.state();
+        let places = &state.controllers[..state.config.controllers()];
+        if places.iter().any(|place| place.off_bus) {
+            return "poll busoff".to_string();
+        }
+        let waits = |place: &ControllerPlace| place.request != Some(Mode::Stopped);
+        let to_stop = places.iter().position(|place| place.mode == Mode::Started && waits(place));
+        if let Some(controller) = to_stop {
+            return format!("set {controller} STOPPED");
+        }
+        let started = places.iter().any(|place| place.mode == Mode::Started);
+        let waiting = places.iter().any(|place| place.request.is_some());
+        if started || (waiting && self.rng.percent(50)) {
+            return "poll mode".to_string();
+        }
+        "deinit".to_string()
+    }
+
+    /// A command for this action, if one makes sense now.
+    fn act(&mut self, action: Action) -> Option<String> {
+        match action {
+            Action::Write => self.write_free(),
+            Action::Sent => self.sent_waiting(),
+            Action::Arrived => self.arrive(),
+            Action::PollWrite => Some("poll write".to_string()),
+            Action::PollRead => Some("poll read".to_string()),
+            Action::PollMode => self.poll_mode(),
+            Action::PollBusOff => self.poll_bus_off(),
+            Action::Set => self.set_permitted(),
+            Action::Get => self.get(),
+            Action::BusOff => self.bus_off(),
+            Action::Look => Some(self.look()),
+            Action::BadMoment => Some(self.bad_moment()),
+        }
+    }
+
+    /// The configured objects for which `test` holds, with their controllers.
+    fn objects_where(
+        &self,
+        test: impl Fn(&ObjectConfig, &ObjectPlace, &ControllerPlace) -> bool,
+    ) -> Vec<u32> {
+        let state = self.state();
+        let objects = state.config.objects().iter().zip(&state.objects).enumerate();
+        objects
+            .filter(|(_, (config, place))| {
+                test(config, place, &state.controllers[usize::from(config.controller)])
+            })
+            .map(|(object, _)| object as u32)
+            .collect()
+    }
+
+    /// The configured controllers for which `test` holds.
+    fn controllers_where(&self, test: impl Fn(&ControllerPlace) -> bool) -> Vec<u32> {
+        let state = self.state();
+        let places = state.controllers[..state.config.controllers()].iter().enumerate();
+        places.filter(|(_, place)| test(place)).map(|(number, _)| number as u32).collect()
+    }
+
+    fn object_config(&self, object: u32) -> Option<ObjectConfig> {
+        self.state().config.object(object).copied()
+    }
+
+    /// A frame that fits a free sending object of a STARTED controller.
+    fn write_free(&mut self) -> Option<String> {
+        let free = self.objects_where(|config, place, controller| {
+            config.kind == Kind::Sending && !place.occupied && controller.mode == Mode::Started
+        });
+        let object = *self.rng.choose(&free)?;
+        self.write_to(object)
+    }
+
+    /// A fitting frame for a configured object, free or not.
+    fn write_to(&mut self, object: u32) -> Option<String> {
+        let config = self.object_config(object)?;
+        let fd = config.payload == 64 && self.rng.percent(60);
+        let identifier = good_identifier(&mut self.rng, fd);
+        let length = written_length(&mut self.rng, identifier);
+        Some(format!(
+            "write {} {} {} {}",
+            number_word(&mut self.rng, object),
+            handle(&mut self.rng),
+            identifier_word(&mut self.rng, identifier),
+            random_bytes_word(&mut self.rng, length)
+        ))
+    }
+
+    fn sent_waiting(&mut self) -> Option<String> {
+        let waiting = self.objects_where(|_, place, controller| {
+            place.occupied && !place.gone && !controller.off_bus
+        });
+        let object = *self.rng.choose(&waiting)?;
+        Some(format!("sent {}", number_word(&mut self.rng, object)))
+    }
+
+    /// Mostly a frame that some object wants; now and then any good frame.
+    fn arrive(&mut self) -> Option<String> {
+        let listening = |place: &ControllerPlace| place.mode == Mode::Started && !place.off_bus;
+        let receiving = self.objects_where(|config, _, controller| {
+            config.kind == Kind::Receiving && listening(controller)
+        });
+        let (controller, identifier) = match self.rng.choose(&receiving) {
+            Some(&object) if self.rng.percent(90) => {
+                let config = self.object_config(object)?;
+                (config.controller.into(), fitting_identifier(&mut self.rng, &config))
+            }
+            _ => {
+                let controllers = self.controllers_where(listening);
+                let fd = self.rng.percent(50);
+                (*self.rng.choose(&controllers)?, good_identifier(&mut self.rng, fd))
+            }
+        };
+        let identifier = if self.rng.one_in(20) { identifier ^ FD } else { identifier };
+        let length = arriving_length(&mut self.rng, identifier);
+        Some(format!(
+            "arrived {} {} {}",
+            controller,
+            identifier_word(&mut self.rng, identifier),
+            random_bytes_word(&mut self.rng, length)
+        ))
+    }
+
+    /// Rarer while no request waits.
+    fn poll_mode(&mut self) -> Option<String> {
+        let waiting = self.controllers_where(|place| place.request.is_some());
+        (!waiting.is_empty() || self.rng.one_in(8)).then(|| "poll mode".to_string())
+    }
+
+    /// Rarer while no controller is marked.
+    fn poll_bus_off(&mut self) -> Option<String> {
+        let marked = self.controllers_where(|place| place.off_bus);
+        (!marked.is_empty() || self.rng.one_in(8)).then(|| "poll busoff".to_string())
+    }
+
+    /// A permitted request; controllers are kept STARTED most of the time.
+    fn set_permitted(&mut self) -> Option<String> {
+        let all = self.controllers_where(|_| true);
+        let controller = *self.rng.choose(&all)?;
+        let mode = self.state().controllers[controller as usize].mode;
+        let wish = match mode {
+            Mode::Started if self.rng.one_in(12) => Mode::Stopped,
+            Mode::Stopped => {
+                self.rng.weighted(&[(86, Mode::Started), (7, Mode::Stopped), (7, Mode::Sleep)])
+            }
+            Mode::Sleep => self.rng.weighted(&[(80, Mode::Stopped), (20, Mode::Sleep)]),
+            _ => return None,
+        };
+        let name = match wish {
+            _ if self.rng.one_in(10) => wish.number().to_string(),
+            Mode::Started => "STARTED".to_string(),
+            Mode::Stopped => "STOPPED".to_string(),
+            _ => "SLEEP".to_string(),
+        };
+        Some(format!("set {controller} {name}"))
+    }
+
+    fn get(&mut self) -> Option<String> {
+        let all = self.controllers_where(|_| true);
+        let controller = *self.rng.choose(&all)?;
+        Some(format!("get {}", number_word(&mut self.rng, controller)))
+    }
+
+    fn bus_off(&mut self) -> Option<String> {
+        let running = self.controllers_where(|place| place.mode == Mode::Started && !place.off_bus);
+        Some(format!("busoff {}", self.rng.choose(&running)?))
+    }
+
+    /// Data, show and state, which change nothing.
+    fn look(&mut self) -> String {
+        match self.rng.below(10) {
+            0 => "state".to_string(),
+            1 | 2 => format!("show {}", self.rng.below(33)),
+            _ => format!("data {}", self.rng.below(32)),
+        }
+    }
+
+    /// A sensible call at a moment when it may well be refused: a restart in
+    /// mid-flight, a second write, a sent or bus-off out of turn.
+    fn bad_moment(&mut self) -> String {
+        let object = self.rng.below(32) as u32;
+        let controller = self.rng.below(4);
+        match self.rng.below(8) {
+            0 => self.init(),
+            1 => "deinit".to_string(),
+            2 => format!("set {controller} {}", self.rng.pick(["STARTED", "SLEEP", "STOPPED"])),
+            3 => format!("busoff {controller}"),
+            4 => format!("sent {object}"),
+            5 => format!("arrived {controller} 120 {}", random_bytes_word(&mut self.rng, 8)),
+            _ => self.write_to(object).unwrap_or_else(|| format!("sent {object}")),
+        }
+    }
+}

@@ -1,0 +1,130 @@
+//! Random configuration bytes, good ones and broken ones.
+
+use super::frames::identifier_bits;
+use super::rng::Rng;
+use crate::identifier::EXTENDED;
+
+const HEADER: usize = 8;
+const RECORD: usize = 12;
+const SENDING: u8 = 0;
+
+/// A configuration that Init accepts.
+pub fn good(rng: &mut Rng) -> Vec<u8> {
+    let controllers = rng.between(1, 4);
+    let objects = match rng.below(10) {
+        0 => rng.between(0, 1),
+        1 | 2 => 32,
+        _ => rng.between(2, 32),
+    };
+    let mut bytes = vec![0x43, 0x48, 0x42, 0, 1, controllers as u8, objects as u8, 0];
+    let receiving_percent = rng.pick([50, 50, 50, 20, 80, 0, 100]);
+    for _ in 0..objects {
+        let controller = rng.below(controllers) as u8;
+        let payload = rng.pick([8, 64]);
+        if rng.percent(receiving_percent) {
+            let (code, mask) = filter(rng);
+            bytes.extend([controller, 1, payload, 0]);
+            bytes.extend(code.to_be_bytes());
+            bytes.extend(mask.to_be_bytes());
+        } else {
+            bytes.extend([controller, SENDING, payload, rng.byte()]);
+            bytes.extend([0; 8]);
+        }
+    }
+    bytes
+}
+
+/// A good filter; many are alike, so that several objects fit one frame.
+fn filter(rng: &mut Rng) -> (u32, u32) {
+    let extended = rng.percent(40);
+    let bits = identifier_bits(extended);
+    let code = match rng.below(4) {
+        0 => rng.word(),
+        1 => u32::MAX,
+        _ => 0x120 + rng.below(4) as u32,
+    };
+    let mask = match rng.below(5) {
+        0 => 0,
+        1 => rng.word(),
+        2 => 0x7F0,
+        _ => u32::MAX,
+    };
+    (code & bits | if extended { EXTENDED } else { 0 }, mask & bits)
+}
+
+/// A good configuration with one thing broken (now and then it stays good).
+pub fn broken(rng: &mut Rng) -> Vec<u8> {
+    let mut bytes = good(rng);
+    let objects = usize::from(bytes[6]);
+    match rng.below(if objects > 0 { 12 } else { 7 }) {
+        0 => flip(rng, &mut bytes, 0, 5),
+        1 => bytes[5] = rng.pick([0, 5, 6, 128, 255]),
+        2 => bytes[6] = rng.pick([0, 1, 31, 32, 33, 64, 255]),
+        3 => bytes[7] = rng.byte(),
+        4 => shorten(rng, &mut bytes),
+        5 => lengthen(rng, &mut bytes),
+        6 => bytes = nonsense(rng),
+        field => {
+            let start = HEADER + RECORD * rng.below(objects);
+            break_record(rng, &mut bytes[start..start + RECORD], field);
+        }
+    }
+    bytes
+}
+
+/// Breaks one field of one record.
+fn break_record(rng: &mut Rng, record: &mut [u8], field: usize) {
+    match field {
+        7 => record[0] = rng.pick([1, 2, 3, 4, 5, 255]),
+        8 => record[1] = rng.pick([0, 1, 2, 3, 128, 255]),
+        9 => record[2] = rng.pick([0, 1, 7, 9, 16, 63, 65, 72, 128, 255]),
+        10 => record[3] = rng.byte(),
+        _ => flip(rng, record, 4, 8),
+    }
+}
+
+/// Flips one bit among `count` bytes from `start` on.
+fn flip(rng: &mut Rng, bytes: &mut [u8], start: usize, count: usize) {
+    bytes[start + rng.below(count)] ^= 1 << rng.below(8);
+}
+
+fn shorten(rng: &mut Rng, bytes: &mut Vec<u8>) {
+    let length = bytes.len();
+    let cut = rng.pick([1, 2, 4, 11, 12, 13, 24]).min(length);
+    let kept = if rng.percent(30) { rng.below(length) } else { length - cut };
+    bytes.truncate(kept);
+}
+
+fn lengthen(rng: &mut Rng, bytes: &mut Vec<u8>) {
+    let extra = rng.pick([1, 2, 4, 11, 12, 13, 24, 400]);
+    let added = if rng.percent(50) { vec![0; extra] } else { rng.bytes(extra) };
+    bytes.extend(added);
+}
+
+/// Anything: random bytes, or 33 and more good records.
+fn nonsense(rng: &mut Rng) -> Vec<u8> {
+    if rng.percent(50) {
+        let length = rng.pick([0, 1, 7, 8, 9, 20, 32, 392, 393, 1000]);
+        return rng.bytes(length);
+    }
+    let objects = rng.pick([33, 34, 64, 255]);
+    let mut bytes = vec![0x43, 0x48, 0x42, 0, 1, 4, objects, 0];
+    for _ in 0..objects {
+        bytes.extend([0, SENDING, 8, 0, 0, 0, 0, 0, 0, 0, 0, 0]);
+    }
+    bytes
+}
+
+#[cfg(test)]
+mod tests {
+    use super::*;
+    use crate::config::Config;
+
+    #[test]
+    fn good_ones_are_accepted_and_most_broken_ones_are_not() {
+        let mut rng = Rng::new(1);
+        assert!((0..5000).all(|_| Config::read(&good(&mut rng)).is_some()));
+        let bad = (0..5000).filter(|_| Config::read(&broken(&mut rng)).is_none()).count();
+        assert!(bad > 3500, "{bad} of 5000 are bad");
+    }
+}

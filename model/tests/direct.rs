@@ -1,0 +1,112 @@
+//! Rules that a script cannot show: any first memory, any sheet content, and
+//! states that are not sound.
+
+use pump_model::identifier::Identifier;
+use pump_model::mode::Mode;
+use pump_model::outcome::{Outcome, Reason};
+use pump_model::state::State;
+
+/// The paper's configuration K.
+const K: [u8; 32] = [
+    0x43, 0x48, 0x42, 0x00, 0x01, 0x01, 0x02, 0x00, //
+    0x00, 0x00, 0x40, 0xCC, 0, 0, 0, 0, 0, 0, 0, 0, //
+    0x00, 0x01, 0x08, 0x00, 0x00, 0x00, 0x01, 0x20, 0x00, 0x00, 0x07, 0xFF,
+];
+
+/// K accepted and controller 0 STARTED, with a memory and a sheet full of marks.
+fn started() -> (State, Vec<u32>, Vec<u8>) {
+    let (mut state, mut sheet, mut memory) = (State::default(), vec![0; 144], vec![0; 2304]);
+    assert_eq!(state.init(&K, &mut sheet, &mut memory), Outcome::silent(Ok(())));
+    assert_eq!(state.set_mode(0, 1, &mut sheet), Outcome::silent(Ok(())));
+    assert_eq!(state.poll_mode(&mut sheet, &memory).code(), 0);
+    (state, vec![0xABCD_EF01; 150], vec![0xEE; 2304])
+}
+
+#[test]
+fn init_zeroes_any_memory_and_a_refused_one_leaves_it() {
+    let (mut state, mut sheet, mut memory) = (State::default(), vec![7; 144], vec![0xEE; 2304]);
+    let refused = state.init(&K[..31], &mut sheet, &mut memory);
+    assert_eq!(refused, Outcome { result: Err(Reason::InitFailed), records: 1 });
+    assert_eq!(state, State::default());
+    assert!(memory.iter().all(|&byte| byte == 0xEE));
+    assert_eq!(sheet[..4], [5, 0, 9, 0]);
+    assert!(sheet[4..].iter().all(|&word| word == 7));
+
+    let mut sheet = vec![7; 144];
+    assert_eq!(state.init(&K, &mut sheet, &mut memory), Outcome::silent(Ok(())));
+    assert!(memory.iter().all(|&byte| byte == 0));
+    assert!(sheet.iter().all(|&word| word == 7));
+}
+
+#[test]
+fn deinit_zeroes_any_memory() {
+    let (mut state, mut sheet, mut memory) = started();
+    assert_eq!(state.set_mode(0, 2, &mut sheet).code(), 0);
+    assert_eq!(state.poll_mode(&mut sheet, &memory).code(), 0);
+    assert_eq!(state.deinit(&mut sheet, &mut memory), Outcome::silent(Ok(())));
+    assert!(memory.iter().all(|&byte| byte == 0));
+    assert_eq!(state, State::default());
+}
+
+#[test]
+fn a_write_touches_its_72_bytes_only() {
+    let (mut state, mut sheet, mut memory) = started();
+    let written = state.write(0, 7, Identifier(0x123), &[1, 2], &mut sheet, &mut memory);
+    assert_eq!(written, Outcome::silent(Ok(0)));
+    assert_eq!(memory[..10], [0, 0, 1, 0x23, 2, 2, 0, 7, 1, 2]);
+    assert!(memory[10..72].iter().all(|&byte| byte == 0));
+    assert!(memory[72..].iter().all(|&byte| byte == 0xEE));
+    assert!(sheet.iter().all(|&word| word == 0xABCD_EF01));
+}
+
+#[test]
+fn records_are_read_from_the_memory_lent_to_that_call() {
+    let (mut state, mut sheet, mut memory) = started();
+    assert_eq!(state.write(0, 7, Identifier(0), &[], &mut sheet, &mut memory).code(), 0);
+    assert_eq!(state.sent(0).code(), 0);
+    let arrived = state.arrived(0, Identifier(0x120), &[], &mut sheet, &mut memory);
+    assert_eq!(arrived.code(), 0);
+
+    let other = vec![0xEE; 2304];
+    assert_eq!(state.poll_write(&mut sheet, &other).records, 1);
+    assert_eq!(sheet[..4], [1, 0, 0xEEEE, 0]);
+    assert_eq!(state.poll_read(&mut sheet, &other).records, 1);
+    assert_eq!(sheet[..4], [2, 1, 0xEEEE_EEEE, 0xEE]);
+    assert!(sheet[4..].iter().all(|&word| word == 0xABCD_EF01));
+}
+
+#[test]
+fn a_state_that_is_not_sound_is_41_everywhere() {
+    let (mut state, _, mut memory) = started();
+    state.objects[0].full = true;
+    let mut short_sheet = vec![9; 3];
+    let before = state.clone();
+    let sheet = &mut short_sheet[..];
+    let identifier = Identifier(0x2000_0000);
+    let not_sound = |code: u32, reason: u32, records: usize| {
+        assert_eq!((code, reason, records), (1, 41, 0));
+    };
+    let judge = |outcome: Outcome<()>| {
+        not_sound(outcome.code(), outcome.reason(), outcome.records);
+    };
+    judge(state.init(&K, sheet, &mut memory));
+    judge(state.deinit(sheet, &mut memory));
+    judge(state.set_mode(9, 9, sheet));
+    judge(state.poll_write(sheet, &memory));
+    judge(state.poll_read(sheet, &memory));
+    judge(state.poll_mode(sheet, &memory));
+    judge(state.poll_bus_off(sheet, &memory));
+    judge(state.sent(9));
+    judge(state.bus_off(9));
+    let got = state.get_mode(9, sheet);
+    not_sound(got.code(), got.reason(), got.records);
+    let written = state.write(9, 9, identifier, &[], sheet, &mut memory);
+    not_sound(written.code(), written.reason(), written.records);
+    let arrived = state.arrived(9, identifier, &[], sheet, &mut memory);
+    not_sound(arrived.code(), arrived.reason(), arrived.records);
+
+    assert_eq!(state, before);
+    assert!(memory.iter().all(|&byte| byte == 0xEE));
+    assert_eq!(short_sheet, [9; 3]);
+    assert_eq!(state.controllers[0].mode, Mode::Started);
+}

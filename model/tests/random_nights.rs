@@ -1,0 +1,249 @@
+//! Random nights, judged by books that are kept apart from the model: every
+//! state is sound, the mode book agrees, and every accepted write is closed
+//! once, by a record with its own handle, its 72 bytes untouched till then.
+
+use std::collections::{BTreeMap, BTreeSet};
+
+use pump_model::mailbox;
+use pump_model::nights::{Maker, Style};
+
+/// A call as printed: name, code, answer and records.
+struct Printed {
+    name: String,
+    code: u32,
+    answer: String,
+    records: Vec<Vec<u32>>,
+}
+
+impl Printed {
+    /// Reads the printed line of a call; `None` for other lines.
+    fn read(answer: &[u8]) -> Option<Printed> {
+        let text = std::str::from_utf8(answer).ok()?.trim_end();
+        let mut words = text.splitn(6, ' ').skip(1);
+        let name = words.next()?.to_string();
+        let code = words.next()?.parse().ok()?;
+        if matches!(name.as_str(), "?" | "data" | "show" | "state") {
+            return None;
+        }
+        let answer = words.nth(1)?.to_string();
+        let rest = words.next().unwrap_or("");
+        let records = rest
+            .split('[')
+            .skip(1)
+            .map(|record| {
+                let record = record.trim_end_matches([']', ' ']);
+                record.split(' ').map(|word| word.parse().expect("a number")).collect()
+            })
+            .collect();
+        Some(Printed { name, code, answer, records })
+    }
+}
+
+/// The paper's mode book, fed each call's arguments and return code.
+#[derive(Default)]
+struct ModeBook {
+    modes: [u32; 4],
+    wishes: [Option<u32>; 4],
+    marks: [bool; 4],
+}
+
+impl ModeBook {
+    fn note(&mut self, name: &str, words: &[&str]) {
+        match name {
+            "init" => {
+                let count = usize::from_str_radix(&words[1][10..12], 16).expect("hex");
+                self.modes[..count].fill(2);
+            }
+            "deinit" => *self = ModeBook::default(),
+            "set" => {
+                let wish = match words[2] {
+                    "STARTED" => 1,
+                    "STOPPED" => 2,
+                    "SLEEP" => 3,
+                    number => plain_number(number),
+                };
+                self.wishes[plain_number(words[1]) as usize] = Some(wish);
+            }
+            "busoff" => self.marks[plain_number(words[1]) as usize] = true,
+            "poll-mode" => {
+                for controller in (0..4).filter(|&controller| !self.marks[controller]) {
+                    if let Some(wish) = self.wishes[controller].take() {
+                        let permitted = matches!(
+                            (self.modes[controller], wish),
+                            (1, 2) | (2, 1..=3) | (3, 2 | 3)
+                        );
+                        assert!(permitted, "{} to {wish}", self.modes[controller]);
+                        self.modes[controller] = wish;
+                    }
+                }
+            }
+            "poll-busoff" => {
+                for controller in 0..4 {
+                    if std::mem::take(&mut self.marks[controller]) {
+                        self.modes[controller] = 2;
+                        self.wishes[controller] = None;
+                    }
+                }
+            }
+            _ => (),
+        }
+    }
+}
+
+fn plain_number(word: &str) -> u32 {
+    match word.strip_prefix("0x") {
+        Some(digits) => u32::from_str_radix(digits, 16).expect("hex"),
+        None => word.parse().expect("decimal"),
+    }
+}
+
+/// What lies in the objects, by object number.
+#[derive(Default)]
+struct FrameBook {
+    /// Writes that no record has closed yet: handle and 72 bytes.
+    open: BTreeMap<u32, (u32, Vec<u8>)>,
+    /// Objects sent since their write.
+    sent: BTreeSet<u32>,
+    /// Frames stored and not yet indicated: identifier and length.
+    stored: BTreeMap<u32, (u32, u32)>,
+}
+
+impl FrameBook {
+    /// Judges the records of an accepted call, then notes what the call did.
+    fn note(&mut self, printed: &Printed, words: &[&str], memory: &[u8]) {
+        let mut indicated = Vec::new();
+        for record in &printed.records {
+            match record[0] {
+                1 => {
+                    assert_eq!(printed.name, "poll-write");
+                    assert!(self.sent.remove(&record[1]), "confirmed but not sent");
+                    self.close(record);
+                }
+                2 => indicated.push((record[1], (record[2], record[3]))),
+                7 => {
+                    assert!(printed.name == "poll-mode" || printed.name == "poll-busoff");
+                    self.sent.remove(&record[1]);
+                    self.close(record);
+                }
+                _ => (),
+            }
+        }
+        match printed.name.as_str() {
+            "write" => self.open_write(words, memory),
+            "sent" => assert!(self.sent.insert(plain_number(words[1])), "sent twice"),
+            "poll-write" => assert!(self.sent.is_empty(), "sent but not confirmed"),
+            "poll-read" => assert!(std::mem::take(&mut self.stored).into_iter().eq(indicated)),
+            "arrived" => self.store(&printed.answer, words),
+            "deinit" => {
+                assert!(self.open.is_empty(), "a write left open");
+                self.stored.clear();
+            }
+            _ => (),
+        }
+    }
+
+    fn open_write(&mut self, words: &[&str], memory: &[u8]) {
+        let object = plain_number(words[1]);
+        let bytes = mailbox::object_bytes(memory, object).expect("an object");
+        let earlier = self.open.insert(object, (plain_number(words[2]), bytes.to_vec()));
+        assert!(earlier.is_none(), "a second write before the first was closed");
+    }
+
+    /// A record of kind 1 or 7 closes a write and carries its handle.
+    fn close(&mut self, record: &[u32]) {
+        let (handle, _) = self.open.remove(&record[1]).expect("an open write");
+        assert_eq!(record[2], handle);
+    }
+
+    fn store(&mut self, answer: &str, words: &[&str]) {
+        let Some(object) = answer.strip_prefix("stored:") else {
+            return;
+        };
+        let digits = words[2].trim_start_matches("0x");
+        let identifier = u32::from_str_radix(digits, 16).expect("hex");
+        let length = if words[3] == "-" { 0 } else { words[3].len() as u32 / 2 };
+        let earlier = self.stored.insert(plain_number(object), (identifier, length));
+        assert!(earlier.is_none(), "stored in a full object");
+    }
+
+    /// The bytes of an open write do not change.
+    fn compare(&self, memory: &[u8]) {
+        for (object, (_, bytes)) in &self.open {
+            assert_eq!(mailbox::object_bytes(memory, *object), Some(&bytes[..]));
+        }
+    }
+}
+
+/// Plays one night and keeps the books; gives how many calls were accepted and refused.
+fn judge(seed: u64, style: Style, lines: usize) -> (usize, usize) {
+    let mut maker = Maker::new(seed, style);
+    let mut modes = ModeBook::default();
+    let mut frames = FrameBook::default();
+    let (mut yes, mut no) = (0, 0);
+    for _ in 0..lines {
+        let line = maker.next_line();
+        assert!(line.ends_with(b"\n") && !line[..line.len() - 1].contains(&b'\n'));
+        let bench = maker.bench();
+        assert!(bench.state().is_sound());
+        frames.compare(bench.memory());
+        let Some(printed) = Printed::read(maker.last_answer()) else {
+            continue;
+        };
+        if printed.code != 0 {
+            no += 1;
+            continue;
+        }
+        yes += 1;
+        let text = String::from_utf8_lossy(&line);
+        let text = text.split('#').next().expect("a first part");
+        let words: Vec<&str> = text.split_ascii_whitespace().collect();
+        modes.note(&printed.name, &words);
+        frames.note(&printed, &words, bench.memory());
+        for (place, mode) in bench.state().controllers.iter().zip(modes.modes) {
+            assert_eq!(place.mode.number(), mode);
+        }
+    }
+    (yes, no)
+}
+
+#[test]
+fn calm_nights_keep_the_books() {
+    for seed in 0..8 {
+        let (yes, no) = judge(seed, Style::Calm, 10_000);
+        assert!(yes > 12 * no, "seed {seed}: {yes} accepted, {no} refused");
+    }
+}
+
+#[test]
+fn wild_nights_keep_the_books() {
+    for seed in 100..108 {
+        let (yes, no) = judge(seed, Style::Wild, 10_000);
+        assert!(yes > 1000 && no > 1000, "seed {seed}: {yes} accepted, {no} refused");
+    }
+}
+
+#[test]
+fn a_night_depends_on_seed_and_style_only() {
+    for style in [Style::Calm, Style::Wild] {
+        let night = |seed| {
+            let mut maker = Maker::new(seed, style);
+            (0..2000).flat_map(|_| maker.next_line()).collect::<Vec<u8>>()
+        };
+        assert_eq!(night(7), night(7));
+        assert_ne!(night(7), night(8));
+    }
+}
+
+#[test]
+fn the_maker_answers_as_the_program_does() {
+    for style in [Style::Calm, Style::Wild] {
+        let mut maker = Maker::new(3, style);
+        let (mut script, mut answers, mut output) = (Vec::new(), Vec::new(), Vec::new());
+        for _ in 0..5000 {
+            script.extend(maker.next_line());
+            answers.extend_from_slice(maker.last_answer());
+        }
+        pump_model::night::play(&script[..], &mut output).expect("no trouble in memory");
+        assert_eq!(output, answers);
+    }
+}
