@@ -24,9 +24,7 @@ room c =
 tell-requires : tie.Need-tell-requires
 tell-requires c κs =
     let closed = c .before .before .before in
-    let told = room closed in
-    let long = closed .cancel-if .kept .1 .1 .1 .1 .1 .1 .0 in
-    (told, omega arith)
+    omega (arith, room closed, closed .cancel-if .kept .1 .1 .1 .1 .1 .1 .0)
 
 same-length : tie.Need-same-length
 same-length c = search needs
