@@ -1,0 +1,55 @@
+-- `bench::summary::waiting` meets its contract: it is safe and ends.
+use borrow.Author.Needs.{needs}
+use Prim.Native.Nat.{_≤_, _-_}
+use Rattle.rules.specs.Chip.{chip}
+use Rattle.bench.proofs.summary.waiting.Statement.{statement}
+use Rattle.bench.proofs.summary.waiting.Tie as tie
+
+abbrev Inv-loop : tie.InvT-loop
+Inv-loop mailboxes count₀ h₀ count h = h ≤ chip .objects
+
+abbrev μ-loop : tie.MeasureT-loop
+μ-loop mailboxes count₀ h₀ count h = chip .objects - h
+
+loop-holds : tie.Need-loop-holds Inv-loop μ-loop
+loop-holds c = search needs
+
+mul-m : tie.Need-mul-m Inv-loop μ-loop
+mul-m c = search needs
+
+array-copy-out-m : tie.Need-array-copy-out-m Inv-loop μ-loop
+array-copy-out-m c = search needs
+
+cast-wrapping-add-u64 : tie.Need-cast-wrapping-add-u64 Inv-loop μ-loop
+cast-wrapping-add-u64 c = search needs
+
+wrapping-add-u64-requires : tie.Need-wrapping-add-u64-requires Inv-loop μ-loop
+wrapping-add-u64-requires c κs = search needs
+
+add-h : tie.Need-add-h Inv-loop μ-loop
+add-h c = search needs
+
+loop-less : tie.Need-loop-less Inv-loop μ-loop
+loop-less c = search needs
+
+loop-again : tie.Need-loop-again Inv-loop μ-loop
+loop-again c = search needs
+
+returns : tie.Need-returns Inv-loop μ-loop
+returns c = search needs
+
+pub waiting-spec : {M : Type 1} → statement M
+waiting-spec =
+    tie.close
+    (tie.spec
+    Inv-loop
+    μ-loop
+    loop-holds
+    mul-m
+    array-copy-out-m
+    cast-wrapping-add-u64
+    wrapping-add-u64-requires
+    add-h
+    loop-less
+    loop-again
+    returns)

@@ -1,0 +1,60 @@
+-- `bench::terse::mailboxes` meets its contract: it is safe and ends.
+use borrow.Author.Needs.{needs}
+use Prim.Native.Nat.{_≤_, _-_}
+use mathlib.Core.Path.{_≡_}
+use lib.ListN.{length}
+use Rattle.bench.proofs.terse.mailboxes.Statement.{statement}
+use Rattle.bench.proofs.terse.mailboxes.Tie as tie
+
+abbrev Inv-loop : tie.InvT-loop
+Inv-loop out₀ at places count end₀ h₀ out end h = (h ≤ count) × (length out ≡ length out₀)
+
+abbrev μ-loop : tie.MeasureT-loop
+μ-loop out₀ at places count end₀ h₀ out end h = count - h
+
+limited-requires : tie.Need-limited-requires Inv-loop μ-loop
+limited-requires c κs = search needs
+
+loop-holds : tie.Need-loop-holds Inv-loop μ-loop
+loop-holds c = search needs
+
+mul-mailbox : tie.Need-mul-mailbox Inv-loop μ-loop
+mul-mailbox c = search needs
+
+array-copy-out-mailbox : tie.Need-array-copy-out-mailbox Inv-loop μ-loop
+array-copy-out-mailbox c = search needs
+
+mailbox-requires : tie.Need-mailbox-requires Inv-loop μ-loop
+mailbox-requires c κs = search needs
+
+add-h : tie.Need-add-h Inv-loop μ-loop
+add-h c = search needs
+
+loop-less : tie.Need-loop-less Inv-loop μ-loop
+loop-less c = search needs
+
+loop-again : tie.Need-loop-again Inv-loop μ-loop
+loop-again c = search needs
+
+same-length : tie.Need-same-length Inv-loop μ-loop
+same-length c = search needs
+
+returns : tie.Need-returns Inv-loop μ-loop
+returns c = search needs
+
+pub mailboxes-spec : {M : Type 1} → statement M
+mailboxes-spec =
+    tie.close
+    (tie.spec
+    Inv-loop
+    μ-loop
+    limited-requires
+    loop-holds
+    mul-mailbox
+    array-copy-out-mailbox
+    mailbox-requires
+    add-h
+    loop-less
+    loop-again
+    same-length
+    returns)

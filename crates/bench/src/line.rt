@@ -1,0 +1,305 @@
+// One line of a night.
+use crate::call::Answer;
+use crate::call::Kind;
+use crate::call::Played;
+use crate::call::kind_of;
+use crate::call::length;
+use crate::call::perform;
+use crate::night::Night;
+use crate::night::Tally;
+use crate::night::more;
+use crate::night::of_bytes;
+use crate::night::of_words;
+use crate::night::with_origin;
+use crate::object::bytes;
+use crate::plain;
+use crate::print::numbered;
+use crate::tell;
+use crate::tell::Poll;
+use crate::tell::Told;
+use crate::terse;
+use crate::trouble::message;
+use can::OBJECTS;
+use script::command::Command;
+use script::name::name_of;
+use text::put::put;
+use words::bytes::MOST_BYTES;
+use words::reading::Trouble;
+use words::split::word;
+
+// The object that a call laid a frame down in, with the present line for it.
+fn origins_after(origins: [u64; OBJECTS], answer: Answer, line: u64) -> [u64; OBJECTS] {
+    match answer {
+        Answer::TakenBy(h) => with_origin(origins, h, line),
+        Answer::Stored(h) => with_origin(origins, h, line),
+        _ => origins,
+    }
+}
+
+// An accepted write, or an arrival that is lost.
+fn tally_after(tally: Tally, answer: Answer) -> Tally {
+    let mut next = tally;
+    match answer {
+        Answer::TakenBy(_) => {
+            next.written = more(tally.written);
+        }
+        Answer::Lost => {
+            next.lost = more(tally.lost);
+        }
+        _ => {}
+    }
+    next
+}
+
+fn is_bus_off_poll(command: Command) -> bool {
+    match command {
+        Command::PollBusOff => true,
+        _ => false,
+    }
+}
+
+// The call and its notifications in words.
+fn in_words(
+    night: Night,
+    command: Command,
+    played: Played,
+    ram: &[u8],
+    sheet: &[u32],
+    out: &mut [u8],
+    taken: &mut [u8],
+) -> Told {
+    let at = plain::call(out, night.at, night, command, played);
+    let answer = played.answer;
+    let before = night.tally;
+    let tally = tally_after(before, answer);
+    let origins = night.origins;
+    let start = Told {
+        at: at,
+        taken_at: night.taken_at,
+        tally: tally,
+    };
+    let poll = Poll {
+        line: night.line,
+        by_bus_off: is_bus_off_poll(command),
+    };
+    tell::all(
+        start,
+        out,
+        taken,
+        ram,
+        origins,
+        poll,
+        sheet,
+        played.notifications,
+    )
+}
+
+// The call as one line of words.
+fn in_numbers(
+    night: Night,
+    command: Command,
+    played: Played,
+    sheet: &[u32],
+    out: &mut [u8],
+) -> Told {
+    let verdict = played.verdict;
+    let answer = played.answer;
+    let tally = night.tally;
+    let at = terse::call(
+        out,
+        night.at,
+        night.line,
+        command,
+        verdict,
+        answer,
+        sheet,
+        played.notifications,
+    );
+    Told {
+        at: at,
+        taken_at: night.taken_at,
+        tally: tally,
+    }
+}
+
+// A call of the driver, with as much of the memory and the sheet as is lent, and the bytes that its line brings.
+fn performed(
+    night: Night,
+    command: Command,
+    bytes: &[u8],
+    memory: &mut [u8],
+    sheet: &mut [u32],
+) -> Played {
+    let state = night.state;
+    let lent_bytes = of_bytes(night.memory, memory);
+    let lent_words = of_words(night.sheet, sheet);
+    let count = of_bytes(length(command), bytes);
+    perform(
+        state,
+        &mut memory[..lent_bytes],
+        &mut sheet[..lent_words],
+        &bytes[..count],
+        command,
+    )
+}
+
+// What came of a call, in the night's style.
+fn told(
+    night: Night,
+    command: Command,
+    played: Played,
+    memory: &[u8],
+    sheet: &[u32],
+    out: &mut [u8],
+    taken: &mut [u8],
+) -> Told {
+    if night.plain {
+        let lent = of_bytes(night.memory, memory);
+        return in_words(night, command, played, &memory[..lent], sheet, out, taken);
+    }
+    in_numbers(night, command, played, sheet, out)
+}
+
+// The night after a call.
+fn after(night: Night, played: Played, told: Told) -> Night {
+    let state = played.state;
+    let answer = played.answer;
+    let before = night.origins;
+    let origins = origins_after(before, answer, night.line);
+    let tally = told.tally;
+    Night {
+        state: state,
+        origins: origins,
+        tally: tally,
+        plain: night.plain,
+        line: night.line,
+        sheet: night.sheet,
+        memory: night.memory,
+        at: told.at,
+        taken_at: told.taken_at,
+    }
+}
+
+// Tells what came of a call.
+fn answered(
+    night: Night,
+    command: Command,
+    played: Played,
+    memory: &[u8],
+    sheet: &[u32],
+    out: &mut [u8],
+    taken: &mut [u8],
+) -> Night {
+    let told = told(night, command, played, memory, sheet, out, taken);
+    after(night, played, told)
+}
+
+// Plays a call and tells what came of it.
+fn call(
+    night: Night,
+    command: Command,
+    bytes: &[u8],
+    memory: &mut [u8],
+    sheet: &mut [u32],
+    out: &mut [u8],
+    taken: &mut [u8],
+) -> Night {
+    let played = performed(night, command, bytes, memory, sheet);
+    answered(night, command, played, memory, sheet, out, taken)
+}
+
+fn data(night: Night, object: u32, memory: &[u8], out: &mut [u8]) -> usize {
+    let lent = of_bytes(night.memory, memory);
+    let data = can::data_of(&memory[..lent], object);
+    if night.plain {
+        return plain::data(out, night.at, night.line, object, data);
+    }
+    terse::bytes(out, night.at, night.line, b" data - - ", data)
+}
+
+fn show(night: Night, object: u32, memory: &[u8], out: &mut [u8]) -> usize {
+    let bytes = bytes(memory, object);
+    if night.plain {
+        return plain::show(out, night.at, night.line, object, bytes);
+    }
+    terse::bytes(out, night.at, night.line, b" show ", bytes)
+}
+
+fn state(night: Night, out: &mut [u8]) -> usize {
+    let state = night.state;
+    if night.plain {
+        return plain::state(out, night.at, night.line, state);
+    }
+    terse::state(out, night.at, night.line, state)
+}
+
+// A length lent from here on is told in words alone.
+fn lent(night: Night, word: &[u8], n: u32, unit: &[u8], out: &mut [u8]) -> usize {
+    if night.plain {
+        return plain::lent(out, night.at, night.line, word, n, unit);
+    }
+    night.at
+}
+
+fn unreadable(night: Night, trouble: Trouble, line: &[u8], out: &mut [u8]) -> usize {
+    if night.plain {
+        let name = name_of(word(line, 0));
+        return plain::unreadable(out, night.at, night.line, trouble, name);
+    }
+    let numbered_line = numbered(out, night.at, b"", night.line);
+    let mut end = put(out, numbered_line, b" ? ");
+    end = message(out, end, trouble);
+    put(out, end, b"\n")
+}
+
+// A command that is no call.
+fn other(night: Night, command: Command, line: &[u8], memory: &[u8], out: &mut [u8]) -> Night {
+    let mut next = night;
+    match command {
+        Command::Data { object } => {
+            next.at = data(night, object, memory, out);
+        }
+        Command::Show { object } => {
+            next.at = show(night, object, memory, out);
+        }
+        Command::State => {
+            next.at = state(night, out);
+        }
+        Command::Sheet { words } => {
+            next.sheet = words as usize;
+            next.at = lent(night, b"sheet of ", words, b" words from here on\n", out);
+        }
+        Command::Memory { bytes } => {
+            next.memory = bytes as usize;
+            next.at = lent(night, b"memory of ", bytes, b" bytes from here on\n", out);
+        }
+        Command::Unreadable(trouble) => {
+            let mut tally = night.tally;
+            tally.unreadable = more(tally.unreadable);
+            next.tally = tally;
+            next.at = unreadable(night, trouble, line, out);
+        }
+        _ => {}
+    }
+    next
+}
+
+// Plays one line, which has no line end any more.
+pub fn play(
+    night: Night,
+    line: &[u8],
+    memory: &mut [u8],
+    sheet: &mut [u32],
+    bytes: &mut [u8; MOST_BYTES],
+    out: &mut [u8],
+    taken: &mut [u8],
+) -> Night {
+    let command = script::command::read(line, bytes);
+    let mut next = night;
+    next.line = more(night.line);
+    let kind = kind_of(command);
+    match kind {
+        Kind::NoCall => other(next, command, line, memory, out),
+        _ => { call(next, command, bytes, memory, sheet, out, taken) }
+    }
+}

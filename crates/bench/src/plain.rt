@@ -1,0 +1,98 @@
+// The plain style: each line in words.
+use crate::answer;
+use crate::asked;
+use crate::call::Played;
+use crate::night::Night;
+use crate::object;
+use crate::print::hex_or_none;
+use crate::print::numbered;
+use crate::print::right;
+use crate::print::to_column;
+use crate::refused;
+use crate::state;
+use crate::trouble::expected;
+use crate::trouble::message;
+use can::State;
+use can::Verdict;
+use script::command::Command;
+use script::name::Name;
+use text::put::put;
+use words::reading::Trouble;
+
+// The column at which answers begin.
+const ANSWER: usize = 58;
+
+// The line's number.
+fn begun(out: &mut [u8], at: usize, line: u64) -> usize {
+    let end = right(out, at, line, 6);
+    put(out, end, b"  ")
+}
+
+// A call with its answer; the night is as it was before the call.
+pub fn call(out: &mut [u8], at: usize, night: Night, command: Command, played: Played) -> usize {
+    let mut end = begun(out, at, night.line);
+    end = asked::call(out, end, command);
+    end = to_column(out, end, at, ANSWER);
+    let verdict = played.verdict;
+    let replied = played.answer;
+    let next = played.state;
+    match verdict {
+        Verdict::Accepted => {
+            end = answer::call(out, end, command, replied, next, played.notifications);
+            put(out, end, b"\n")
+        }
+        Verdict::Rejected(reason) => {
+            end = refused::call(out, end, night, command, reason);
+            put(out, end, b"\n")
+        }
+    }
+}
+
+// Data of an object.
+pub fn data(out: &mut [u8], at: usize, line: u64, object: u32, data: &[u8]) -> usize {
+    let mut end = begun(out, at, line);
+    end = numbered(out, end, b"data of object ", object as u64);
+    end = to_column(out, end, at, ANSWER);
+    end = hex_or_none(out, end, data);
+    put(out, end, b"\n")
+}
+
+// All bytes of an object.
+pub fn show(out: &mut [u8], at: usize, line: u64, object: u32, bytes: &[u8]) -> usize {
+    let mut end = begun(out, at, line);
+    end = numbered(out, end, b"show object ", object as u64);
+    if bytes.len() == 0 {
+        end = to_column(out, end, at, ANSWER);
+        return put(out, end, b"there is no such object\n");
+    }
+    end = put(out, end, b"\n");
+    object::shown(out, end, bytes)
+}
+
+// The driver state.
+pub fn state(out: &mut [u8], at: usize, line: u64, state: State) -> usize {
+    let mut end = begun(out, at, line);
+    end = put(out, end, b"state");
+    end = to_column(out, end, at, ANSWER);
+    end = state::counts(out, end, state);
+    end = put(out, end, b"\n");
+    end = state::controllers(out, end, state);
+    state::objects(out, end, state)
+}
+
+// A length that is lent from here on.
+pub fn lent(out: &mut [u8], at: usize, line: u64, word: &[u8], n: u32, unit: &[u8]) -> usize {
+    let mut end = begun(out, at, line);
+    end = numbered(out, end, word, n as u64);
+    put(out, end, unit)
+}
+
+// A line that can't be read, and what was expected.
+pub fn unreadable(out: &mut [u8], at: usize, line: u64, trouble: Trouble, name: Name) -> usize {
+    let mut end = begun(out, at, line);
+    end = put(out, end, b"not understood: ");
+    end = message(out, end, trouble);
+    end = put(out, end, b"; expected ");
+    end = expected(out, end, trouble, name);
+    put(out, end, b"\n")
+}

@@ -1,0 +1,284 @@
+// Why a call is refused, in words.
+use crate::call::length;
+use crate::frame::identifier;
+use crate::frame::is_fd;
+use crate::frame::mode;
+use crate::night::Night;
+use crate::night::origin;
+use crate::print::count_of;
+use crate::print::numbered;
+use can::CONTROLLERS;
+use can::OBJECTS;
+use can::RAM_SIZE;
+use can::Rejection;
+use can::SHEET_SIZE;
+use can::State;
+use script::command::Command;
+use text::put::put;
+
+// The controller of an object.
+fn controller_of(state: State, object: u32) -> u64 {
+    let h = object as usize;
+    if OBJECTS <= h {
+        return 0;
+    }
+    let objects = state.objects;
+    let o = objects[h];
+    o.controller as u64
+}
+
+// The mode of a controller.
+fn mode_of(state: State, controller: u32) -> u32 {
+    let c = controller as usize;
+    if CONTROLLERS <= c {
+        return 0;
+    }
+    let controllers = state.controllers;
+    let k = controllers[c];
+    k.mode as u32
+}
+
+// The object that a command names.
+fn object_named(command: Command) -> u32 {
+    match command {
+        Command::Write {
+            object,
+            handle: _,
+            identifier: _,
+            length: _,
+        } => object,
+        Command::Sent { object } => object,
+        _ => 0,
+    }
+}
+
+// The controller that a command names, or that of its object.
+fn controller_named(state: State, command: Command) -> u64 {
+    match command {
+        Command::Set {
+            controller,
+            mode: _,
+        } => controller as u64,
+        Command::Get { controller } => controller as u64,
+        Command::BusOff { controller } => controller as u64,
+        Command::Arrived {
+            controller,
+            identifier: _,
+            length: _,
+        } => controller as u64,
+        _ => controller_of(state, object_named(command)),
+    }
+}
+
+// The identifier that a command names.
+fn identifier_named(command: Command) -> u32 {
+    match command {
+        Command::Write {
+            object: _,
+            handle: _,
+            identifier,
+            length: _,
+        } => identifier,
+        Command::Arrived {
+            controller: _,
+            identifier,
+            length: _,
+        } => identifier,
+        _ => 0,
+    }
+}
+
+// 6: a service that cannot go there from here.
+fn transition(out: &mut [u8], at: usize, state: State, command: Command) -> usize {
+    match command {
+        Command::Init { length: _ } => put(out, at, b"the driver is initialised already"),
+        Command::Set {
+            controller,
+            mode: asked,
+        } => forbidden(out, at, controller, mode_of(state, controller), asked),
+        _ => started_or_uninit(out, at, state),
+    }
+}
+
+fn forbidden(out: &mut [u8], at: usize, controller: u32, from: u32, asked: u32) -> usize {
+    let mut end = numbered(out, at, b"controller ", controller as u64);
+    end = put(out, end, b" cannot go from ");
+    end = mode(out, end, from);
+    end = put(out, end, b" to ");
+    mode(out, end, asked)
+}
+
+fn started_or_uninit(out: &mut [u8], at: usize, state: State) -> usize {
+    if state.initialised {
+        return put(out, at, b"a controller is STARTED");
+    }
+    put(out, at, b"the driver is not initialised")
+}
+
+// 3: data that does not fit the format or the object.
+fn data_length(out: &mut [u8], at: usize, identifier: u32, length: usize) -> usize {
+    let counted = count_of(out, at, length as u64, b" byte");
+    if !is_fd(identifier) {
+        return put(out, counted, b", and a classic frame holds at most 8");
+    }
+    if 64 < length {
+        return put(out, counted, b", and an FD frame holds at most 64");
+    }
+    put(
+        out,
+        counted,
+        b" as an FD frame, and the object's payload is 8",
+    )
+}
+
+// 40: a length that no frame of its format has on the wire.
+fn wire_length(out: &mut [u8], at: usize, identifier: u32, length: usize) -> usize {
+    if is_fd(identifier) {
+        let end = put(out, at, b"no FD frame on the wire has ");
+        return count_of(out, end, length as u64, b" byte");
+    }
+    let end = put(out, at, b"no classic frame on the wire has ");
+    count_of(out, end, length as u64, b" byte")
+}
+
+// 36: the frame that holds the object.
+fn busy(out: &mut [u8], at: usize, object: u32, line: u64) -> usize {
+    let end = numbered(out, at, b"object ", object as u64);
+    numbered(out, end, b" holds the frame of line ", line)
+}
+
+fn sheet(out: &mut [u8], at: usize, words: usize) -> usize {
+    let mut end = put(out, at, b"the sheet has ");
+    end = count_of(out, end, words as u64, b" word");
+    numbered(out, end, b", and a call needs ", SHEET_SIZE as u64)
+}
+
+fn memory(out: &mut [u8], at: usize, bytes: usize) -> usize {
+    let mut end = put(out, at, b"the memory has ");
+    end = count_of(out, end, bytes as u64, b" byte");
+    numbered(out, end, b", and the chip's has ", RAM_SIZE as u64)
+}
+
+fn object(out: &mut [u8], at: usize, word: &[u8], object: u32) -> usize {
+    let end = numbered(out, at, b"object ", object as u64);
+    put(out, end, word)
+}
+
+fn controller(out: &mut [u8], at: usize, word: &[u8], controller: u64) -> usize {
+    let end = numbered(out, at, b"controller ", controller);
+    put(out, end, word)
+}
+
+fn bad_identifier(out: &mut [u8], at: usize, word: u32) -> usize {
+    let mut end = put(out, at, b"id ");
+    end = identifier(out, end, word);
+    put(out, end, b" is not a valid identifier")
+}
+
+// What is wrong with the arguments of a call.
+fn arguments(
+    out: &mut [u8],
+    at: usize,
+    state: State,
+    command: Command,
+    reason: Rejection,
+) -> usize {
+    match reason {
+        Rejection::ParamHandle => object(
+            out,
+            at,
+            b" is no configured sending object",
+            object_named(command),
+        ),
+        Rejection::ParamDataLength => data_length(
+            out,
+            at,
+            identifier_named(command),
+            length(command),
+        ),
+        Rejection::ParamController => controller(
+            out,
+            at,
+            b" is not configured",
+            controller_named(state, command),
+        ),
+        Rejection::BadIdentifier => bad_identifier(out, at, identifier_named(command)),
+        Rejection::BadLength => wire_length(out, at, identifier_named(command), length(command)),
+        _ => put(out, at, b"the configuration is bad"),
+    }
+}
+
+// What stands in the way of a call.
+fn circumstances(
+    out: &mut [u8],
+    at: usize,
+    night: Night,
+    command: Command,
+    reason: Rejection,
+) -> usize {
+    let state = night.state;
+    let origins = night.origins;
+    match reason {
+        Rejection::Uninit => put(out, at, b"the driver is not initialised"),
+        Rejection::Transition => transition(out, at, state, command),
+        Rejection::SheetTooShort => sheet(out, at, night.sheet),
+        Rejection::WrongRamSize => memory(out, at, night.memory),
+        Rejection::NotStarted => controller(
+            out,
+            at,
+            b" is not STARTED",
+            controller_named(state, command),
+        ),
+        Rejection::ObjectBusy => busy(
+            out,
+            at,
+            object_named(command),
+            origin(origins, object_named(command)),
+        ),
+        Rejection::BusOff => controller(
+            out,
+            at,
+            b" is off the bus",
+            controller_named(state, command),
+        ),
+        Rejection::NothingToSend => object(
+            out,
+            at,
+            b" holds no frame that waits to be sent",
+            object_named(command),
+        ),
+        _ => put(out, at, b"the driver state is not valid"),
+    }
+}
+
+fn is_of_arguments(reason: Rejection) -> bool {
+    match reason {
+        Rejection::ParamHandle => true,
+        Rejection::ParamDataLength => true,
+        Rejection::ParamController => true,
+        Rejection::InitFailed => true,
+        Rejection::BadIdentifier => true,
+        Rejection::BadLength => true,
+        _ => false,
+    }
+}
+
+// CAN_BUSY is its own word.
+fn refusal(out: &mut [u8], at: usize, reason: Rejection) -> usize {
+    match reason {
+        Rejection::ObjectBusy => put(out, at, b"busy "),
+        _ => put(out, at, b"rejected "),
+    }
+}
+
+// `rejected 35: controller 0 is not STARTED`; the night is as it was before the call.
+pub fn call(out: &mut [u8], at: usize, night: Night, command: Command, reason: Rejection) -> usize {
+    let state = night.state;
+    let mut end = refusal(out, at, reason);
+    end = numbered(out, end, b"", can::reason(reason) as u64);
+    end = put(out, end, b": ");
+    if is_of_arguments(reason) {
+        return arguments(out, end, state, command, reason);
+    }
+    circumstances(out, end, night, command, reason)
+}

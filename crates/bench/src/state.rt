@@ -1,0 +1,94 @@
+// The driver state in words.
+use crate::frame::mode;
+use crate::print::count_of;
+use crate::print::numbered;
+use crate::print::right;
+use can::Controller;
+use can::Mailbox;
+use can::ObjectConfig;
+use can::State;
+use places::range::limited;
+use text::put::put;
+
+// Whether the driver is initialised, and how much is configured.
+pub fn counts(out: &mut [u8], at: usize, state: State) -> usize {
+    if !state.initialised {
+        return put(out, at, b"not initialised");
+    }
+    let mut end = put(out, at, b"initialised: ");
+    end = count_of(out, end, state.controller_count as u64, b" controller");
+    end = put(out, end, b", ");
+    count_of(out, end, state.object_count as u64, b" object")
+}
+
+fn request(out: &mut [u8], at: usize, asked: u8) -> usize {
+    if asked == 0 {
+        return at;
+    }
+    let end = put(out, at, b", asked for ");
+    mode(out, end, asked as u32)
+}
+
+fn mark(out: &mut [u8], at: usize, bus_off: bool) -> usize {
+    if bus_off {
+        return put(out, at, b", off the bus\n");
+    }
+    put(out, at, b"\n")
+}
+
+fn controller(out: &mut [u8], at: usize, c: usize, k: Controller) -> usize {
+    let mut end = put(out, at, b"          controller ");
+    end = right(out, end, c as u64, 2);
+    end = put(out, end, b"  ");
+    end = mode(out, end, k.mode as u32);
+    end = request(out, end, k.requested_mode);
+    mark(out, end, k.bus_off)
+}
+
+// What an object holds.
+fn held(out: &mut [u8], at: usize, receiving: bool, m: Mailbox) -> usize {
+    if receiving {
+        if m.rx_full {
+            return put(out, at, b"receiving: full\n");
+        }
+        return put(out, at, b"receiving: empty\n");
+    }
+    if m.tx_done {
+        return put(out, at, b"sending: sent, not yet confirmed\n");
+    }
+    if m.tx_pending {
+        return put(out, at, b"sending: waits to be sent\n");
+    }
+    put(out, at, b"sending: free\n")
+}
+
+fn object(out: &mut [u8], at: usize, h: usize, o: ObjectConfig, m: Mailbox) -> usize {
+    let mut end = put(out, at, b"          object     ");
+    end = right(out, end, h as u64, 2);
+    end = numbered(out, end, b"  of controller ", o.controller as u64);
+    end = put(out, end, b", ");
+    held(out, end, o.receiving, m)
+}
+
+// Each configured controller.
+pub fn controllers(out: &mut [u8], at: usize, state: State) -> usize {
+    let places = state.controllers;
+    let count = limited(state.controller_count, can::CONTROLLERS);
+    let mut end = at;
+    for c in 0..count {
+        end = controller(out, end, c, places[c]);
+    }
+    end
+}
+
+// Each configured object.
+pub fn objects(out: &mut [u8], at: usize, state: State) -> usize {
+    let places = state.objects;
+    let mailboxes = state.mailboxes;
+    let count = limited(state.object_count, can::OBJECTS);
+    let mut end = at;
+    for h in 0..count {
+        end = object(out, end, h, places[h], mailboxes[h]);
+    }
+    end
+}

@@ -1,0 +1,150 @@
+// The words style: one line for each call, for programs to compare.
+use crate::call::Answer;
+use crate::notifications::Notification;
+use crate::notifications::notification_at;
+use crate::print::hex_or_none;
+use crate::print::numbered;
+use can::Controller;
+use can::Mailbox;
+use can::State;
+use can::Verdict;
+use places::range::limited;
+use script::command::Command;
+use text::put::put;
+use text::put::put_decimal;
+
+// The name of a call.
+fn name(out: &mut [u8], at: usize, command: Command) -> usize {
+    match command {
+        Command::Init { length: _ } => put(out, at, b" init "),
+        Command::DeInit => put(out, at, b" deinit "),
+        Command::Set {
+            controller: _,
+            mode: _,
+        } => put(out, at, b" set "),
+        Command::Get { controller: _ } => put(out, at, b" get "),
+        Command::Write {
+            object: _,
+            handle: _,
+            identifier: _,
+            length: _,
+        } => put(out, at, b" write "),
+        Command::PollWrite => put(out, at, b" poll-write "),
+        Command::PollRead => put(out, at, b" poll-read "),
+        Command::PollMode => put(out, at, b" poll-mode "),
+        Command::PollBusOff => put(out, at, b" poll-busoff "),
+        Command::Sent { object: _ } => put(out, at, b" sent "),
+        Command::BusOff { controller: _ } => put(out, at, b" busoff "),
+        Command::Arrived {
+            controller: _,
+            identifier: _,
+            length: _,
+        } => put(out, at, b" arrived "),
+        _ => at,
+    }
+}
+
+fn answer(out: &mut [u8], at: usize, answer: Answer) -> usize {
+    match answer {
+        Answer::Nothing => put(out, at, b" -"),
+        Answer::Mode(m) => numbered(out, at, b" ", m as u64),
+        Answer::TakenBy(h) => numbered(out, at, b" ", h as u64),
+        Answer::Stored(h) => numbered(out, at, b" stored:", h as u64),
+        Answer::Unwanted => put(out, at, b" unwanted"),
+        Answer::Lost => put(out, at, b" lost"),
+    }
+}
+
+// One notification: its four words.
+fn notification(out: &mut [u8], at: usize, n: Notification) -> usize {
+    let mut end = numbered(out, at, b" [", n.kind as u64);
+    end = numbered(out, end, b" ", n.place as u64);
+    end = numbered(out, end, b" ", n.second as u64);
+    end = numbered(out, end, b" ", n.third as u64);
+    put(out, end, b"]")
+}
+
+// The first count notifications on the sheet.
+fn notifications(out: &mut [u8], at: usize, sheet: &[u32], count: usize) -> usize {
+    let mut end = at;
+    for i in 0..count {
+        end = notification(out, end, notification_at(sheet, i));
+    }
+    end
+}
+
+// A call: `LINE NAME CODE REASON ANSWER`, then its notifications.
+pub fn call(
+    out: &mut [u8],
+    at: usize,
+    line: u64,
+    command: Command,
+    verdict: Verdict,
+    replied: Answer,
+    sheet: &[u32],
+    count: usize,
+) -> usize {
+    let mut end = put_decimal(out, at, line);
+    end = name(out, end, command);
+    end = put_decimal(out, end, can::return_code(verdict) as u64);
+    end = numbered(out, end, b" ", can::verdict_reason(verdict) as u64);
+    end = answer(out, end, replied);
+    end = notifications(out, end, sheet, count);
+    put(out, end, b"\n")
+}
+
+// Bytes after a word, as of data and show.
+pub fn bytes(out: &mut [u8], at: usize, line: u64, word: &[u8], data: &[u8]) -> usize {
+    let mut end = numbered(out, at, b"", line);
+    end = put(out, end, word);
+    end = hex_or_none(out, end, data);
+    put(out, end, b"\n")
+}
+
+// A flag as 0 or 1.
+fn flag(out: &mut [u8], at: usize, word: &[u8], set: bool) -> usize {
+    numbered(out, at, word, set as u64)
+}
+
+fn controller(out: &mut [u8], at: usize, k: Controller) -> usize {
+    let mut end = numbered(out, at, b" c:", k.mode as u64);
+    end = numbered(out, end, b",", k.requested_mode as u64);
+    flag(out, end, b",", k.bus_off)
+}
+
+fn mailbox(out: &mut [u8], at: usize, m: Mailbox) -> usize {
+    let mut end = flag(out, at, b" o:", m.tx_pending);
+    end = flag(out, end, b",", m.tx_done);
+    flag(out, end, b",", m.rx_full)
+}
+
+fn controllers(out: &mut [u8], at: usize, state: State) -> usize {
+    let places = state.controllers;
+    let count = limited(state.controller_count, can::CONTROLLERS);
+    let mut end = at;
+    for c in 0..count {
+        end = controller(out, end, places[c]);
+    }
+    end
+}
+
+fn mailboxes(out: &mut [u8], at: usize, state: State) -> usize {
+    let places = state.mailboxes;
+    let count = limited(state.object_count, can::OBJECTS);
+    let mut end = at;
+    for h in 0..count {
+        end = mailbox(out, end, places[h]);
+    }
+    end
+}
+
+// The state: `LINE state I C N`, then each controller and each object in use.
+pub fn state(out: &mut [u8], at: usize, line: u64, state: State) -> usize {
+    let mut end = put_decimal(out, at, line);
+    end = flag(out, end, b" state ", state.initialised);
+    end = numbered(out, end, b" ", state.controller_count as u64);
+    end = numbered(out, end, b" ", state.object_count as u64);
+    end = controllers(out, end, state);
+    end = mailboxes(out, end, state);
+    put(out, end, b"\n")
+}

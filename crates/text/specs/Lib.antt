@@ -1,0 +1,2 @@
+-- Text in a buffer.
+pub mod Put

@@ -1,0 +1,7 @@
+// The words of a line, and what a word says: a number, a mode, an identifier, or bytes.
+pub mod bytes;
+pub mod digit;
+pub mod identifier;
+pub mod number;
+pub mod reading;
+pub mod split;

@@ -1,0 +1,26 @@
+// What comes of reading a word.
+
+// Why a line can't be read.
+pub enum Trouble {
+    LineTooLong,
+    UnknownCommand,
+    WordMissing,
+    WordTooMany,
+    NotANumber,
+    NumberTooLarge,
+    NotAnIdentifier,
+    IdentifierTooLong,
+    NotHexDigits,
+    OddDigits,
+    NotAMode,
+    UnknownPoll,
+    HandleTooLarge,
+    SheetTooLong,
+    MemoryTooLong,
+}
+
+// The number that a word says, or the trouble with it.
+pub enum Reading {
+    Value(u32),
+    Unreadable(Trouble),
+}
