@@ -9,16 +9,11 @@ use Rattle.rules.specs.Reason.{Check, first-reason, reasons-named, return-code}
 use Rattle.rules.specs.Outcome.{Outcome, Answer, no-answer, no-report, rejected, accepted, judged}
 use Rattle.rules.specs.State as rules
 use Rattle.rules.specs.Can.{can-format}
-use Rattle.laws.proofs.Reasons.{reason-append, judged-accepts, judged-refuses}
+use Rattle.laws.proofs.Reasons.{judged-accepts, judged-refuses}
 use Rattle.laws.proofs.Sheets.{sheet-none}
 use Rattle.places.specs.View.{view}
 use Rattle.places.specs.declared.state.State.{State}
 use Rattle.answers.specs.Performed.{Performed}
-
--- two judgements in a row find the reason of both lists
-pub joined : (xs ys : List Check) → reasons-named xs ≡ true → {a b r : ℕ} → a ≡ first-reason xs → b ≡ first-reason ys → r ≡ cond (eqb a 0) b a
-    → r ≡ first-reason (xs ++ ys)
-joined xs ys named e f g = g ∙ rw (e, f) (sym (reason-append xs ys named))
 
 -- an accepted call with no notification: the sheet stays as it was
 pub accepted-quietly : (answer : Answer) (next : rules.State can-format) (s : State) (ram sheet : List ℕ) {reason : ℕ} {after : List ℕ}

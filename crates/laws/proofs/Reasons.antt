@@ -88,3 +88,7 @@ judged-accepts F r refuse accept e = rw e
 pub judged-refuses : (F : Format) (r : ℕ) (refuse : ℕ → Outcome F) (accept : Outcome F) → eqb r 0 ≡ false → judged F r refuse accept ≡ refuse r
 unfolding judged
 judged-refuses F r refuse accept e = rw e
+
+-- one judgement and then another: the first reason of their checks in a row
+pub in-a-row : (xs ys : List Check) {a b r : ℕ} → reasons-named xs ≡ true → a ≡ first-reason xs → b ≡ first-reason ys → r ≡ cond (eqb a 0) b a → r ≡ first-reason (xs ++ ys)
+in-a-row xs ys named ea eb e = e ∙ rw (ea, eb, reason-append xs ys named)

@@ -33,7 +33,7 @@ all-words-one (development-error service error) = refl
 all-words-one (data-lost h) = refl
 all-words-one (tx-cancellation h handle) = refl
 
-all-words-append : (ns ms : List Notification) → all-words (ns ++ ms) ≡ all-words ns ++ all-words ms
+pub all-words-append : (ns ms : List Notification) → all-words (ns ++ ms) ≡ all-words ns ++ all-words ms
 unfolding all-words
 all-words-append [] ms = refl
 all-words-append (n ∷ ns) ms = rw (all-words-append ns ms) (sym (append-assoc (words n) (all-words ns) (all-words ms)))

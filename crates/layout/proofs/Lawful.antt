@@ -15,11 +15,11 @@ use Rattle.laws.proofs.Reasons.{head-passed, tail-passed}
 use Rattle.layout.proofs.ObjectBytes.{object-fills, handle-back}
 
 -- a length that passes the test of its format is at most the longest
-short-enough : (fd t : Bool) (n : ℕ) → cond fd (leb n longest-fd && t) (leb n longest-classic) ≡ true → n ≤ longest-fd
+pub short-enough : (fd t : Bool) (n : ℕ) → cond fd (leb n longest-fd && t) (leb n longest-classic) ≡ true → n ≤ longest-fd
 short-enough true t n e = leb-true n longest-fd (left (leb n longest-fd) t e)
 short-enough false t n e = omega (arith, leb-true n longest-classic e)
 
-written-short : (s : Settings) (f : Frame) → first-reason (write-checks s f) ≡ 0 → length (f .sdu) ≤ longest-fd
+pub written-short : (s : Settings) (f : Frame) → first-reason (write-checks s f) ≡ 0 → length (f .sdu) ≤ longest-fd
 written-short s f h =
     let n = length (f .sdu) in
     short-enough (is-fd (f .identifier)) (not (eqb (s .payload) longest-classic)) n

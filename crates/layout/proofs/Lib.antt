@@ -1,2 +1,3 @@
 pub mod ObjectBytes
 pub mod Lawful
+pub mod Placed

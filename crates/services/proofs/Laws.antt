@@ -18,7 +18,7 @@ use Rattle.rules.specs.Outcome.{Outcome, Answer, service-report, rejected, acce
 use Rattle.rules.specs.Can.{can-format}
 use Rattle.rules.specs.Chip.{chip}
 use Rattle.laws.proofs.Tests.{clash, not-false}
-use Rattle.laws.proofs.Reasons.{front-passed, rest-passed, check-passed, reason-append, judged-accepts, judged-refuses}
+use Rattle.laws.proofs.Reasons.{front-passed, rest-passed, check-passed, in-a-row, judged-accepts, judged-refuses}
 use Rattle.laws.proofs.Splices.{splice-is}
 use Rattle.laws.proofs.Sheets.{all-words-one, sheet-none}
 use Rattle.layout.specs.Sheet.{words-each, Put}
@@ -31,11 +31,6 @@ use Rattle.answers.specs.declared.verdict.Verdict.{Verdict}
 use Rattle.answers.specs.declared.verdict.Verdict.the-variants.{Accepted, Rejected}
 use Rattle.answers.proofs.Laws.{reason-named}
 use Rattle.services.specs.Report.{Reported}
-
--- one verdict and then another: the first reason of their checks in a row
-pub in-a-row : (xs ys : List Check) {a b r : ℕ} → reasons-named xs ≡ true → a ≡ first-reason xs → b ≡ first-reason ys
-    → r ≡ cond (eqb a 0) b a → r ≡ first-reason (xs ++ ys)
-in-a-row xs ys named ea eb e = e ∙ rw (ea, eb, reason-append xs ys named)
 
 -- what is made of one thing is made of what that is equal to
 pub carried : {A B : Type 0} (f : A → B) {a b : A} {r : B} → r ≡ f a → a ≡ b → r ≡ f b
@@ -87,10 +82,6 @@ pub splice-whole : {A : Type 0} (xs l : List A) → length xs ≡ length l → s
 splice-whole xs l e =
     let nothing : drop (0 + length xs) l ≡ [] = drop-of-length-le l {i = 0 + length xs} (omega arith) in
     splice-is 0 xs l ∙ rw nothing (append-nil xs)
-
--- a notification put first is the only one
-pub put-first : (n : Notification) {before after : List ℕ} {answer : Bool} → Put 0 n before after answer → words-each ≤ length before → after ≡ sheet-after (n ∷ []) before
-put-first n {before} put room = put .written ∙ rw (le-leb words-each (length before) room, all-words-one n)
 
 -- one call of a service: its checks, its number and answer with a rejection, and what it leaves where it is accepted
 pub record Service : Type 0 where

@@ -14,24 +14,14 @@ use Rattle.rules.specs.Polls.{Boxes, notify}
 use Rattle.rules.specs.Chip.{chip}
 use Rattle.laws.proofs.Tests.{cond-both}
 use Rattle.laws.proofs.Splices.{splice-nil, splice-then}
-use Rattle.laws.proofs.Sheets.{length-all-words, all-words-one}
+use Rattle.laws.proofs.Sheets.{length-all-words, all-words-one, all-words-append}
 use Rattle.laws.proofs.Bounds.{length-snoc}
 use Rattle.layout.specs.Sheet.{words-each}
 use Rattle.places.specs.View.{view-mailbox}
 use Rattle.places.specs.declared.mailbox.Mailbox.{Mailbox}
-use Rattle.places.proofs.Laws.{mailbox-seen, empty-mailbox}
+use Rattle.places.proofs.Laws.{mailbox-seen, empty-mailbox, map-set}
 use Rattle.sweeps.specs.declared.close.Step.{Step}
 use Rattle.sweeps.specs.Swept.{Told, Visited, Swept, boxes-from}
-
-pub map-set : {A B : Type 0} (f : A → B) (l : List A) (i : ℕ) (a : A) → map f (set l i a) ≡ set (map f l) i (f a)
-map-set f [] i a = refl
-map-set f (x ∷ l) zero a = refl
-map-set f (x ∷ l) (suc i) a = ap (_∷_ (f x)) (map-set f l i a)
-
-pub all-words-append : (ns ms : List Notification) → all-words (ns ++ ms) ≡ all-words ns ++ all-words ms
-unfolding all-words
-all-words-append [] ms = refl
-all-words-append (n ∷ ns) ms = rw (all-words-append ns ms) (sym (append-assoc (words n) (all-words ns) (all-words ms)))
 
 -- object h's mailbox, as the rules see it
 abbrev pub seen : List Mailbox → ℕ → rules.Mailbox

@@ -16,17 +16,17 @@ use Rattle.rules.specs.Polls.{Boxes, Sweep, notify, by-stop, close, cancel-one,
 use Rattle.rules.specs.Can.{can-format}
 use Rattle.rules.specs.Chip.{chip}
 use Rattle.laws.proofs.Splices.{splice-then}
-use Rattle.laws.proofs.Sheets.{length-all-words}
+use Rattle.laws.proofs.Sheets.{length-all-words, all-words-append}
 use Rattle.laws.proofs.Bounds.{load, sweep-load, count-limit}
 use Rattle.layout.specs.Sheet.{words-each}
 use Rattle.places.specs.View.{view-controller, view-mailbox}
 use Rattle.places.specs.declared.controller.Controller.{Controller}
 use Rattle.places.specs.declared.mailbox.Mailbox.{Mailbox}
-use Rattle.places.proofs.Laws.{controller-seen, idle-controller}
+use Rattle.places.proofs.Laws.{controller-seen, idle-controller, map-set}
 use Rattle.sweeps.specs.declared.close.Boxes as code
 use Rattle.sweeps.specs.declared.turn.Turn.{Turn}
 use Rattle.sweeps.specs.Swept.{Swept, Spare, Turned, SweptAll, boxes-from, sweep-from, cancelled-if, reported}
-use Rattle.sweeps.proofs.Laws.{map-set, all-words-append, swept-none}
+use Rattle.sweeps.proofs.Laws.{swept-none}
 
 -- Sweeping on from notifications that were told before.
 abbrev behind : List Notification → Boxes → Boxes

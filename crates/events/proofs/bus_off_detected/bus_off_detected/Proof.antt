@@ -11,7 +11,8 @@ use Rattle.rules.specs.Chip.{chip}
 use Rattle.places.specs.View.{view}
 use Rattle.answers.specs.Answer.{verdict-reason}
 use Rattle.answers.proofs.Laws.{reason-named}
-use Rattle.events.proofs.Laws.{joined, granted, refused, accepted-quietly}
+use Rattle.laws.proofs.Reasons.{in-a-row}
+use Rattle.events.proofs.Laws.{granted, refused, accepted-quietly}
 use Rattle.events.proofs.bus_off_detected.bus_off_detected.Statement.{statement}
 use Rattle.events.proofs.bus_off_detected.bus_off_detected.Tie as tie
 
@@ -54,7 +55,7 @@ found c =
     let s = view (start c .args .state) in
     let own : verdict-reason (c .before .judge-on-bus .result) ≡ first-reason (on-bus-checks chip can-format s (start c .args .controller)) =
     rw (← c .before .before .before .before .before .controller-at .ensures) (c .before .judge-on-bus .ensures) in
-    joined (state-gate chip can-format s) (on-bus-checks chip can-format s (start c .args .controller)) refl
+    in-a-row (state-gate chip can-format s) (on-bus-checks chip can-format s (start c .args .controller)) refl
     (rw (c .before .before .before .valid .ensures) at (c .before .before .state-gate .ensures)) own (c .then .ensures)
 
 returns : tie.Need-returns

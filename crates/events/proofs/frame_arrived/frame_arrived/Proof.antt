@@ -13,7 +13,8 @@ use Rattle.rules.specs.Chip.{chip}
 use Rattle.places.specs.View.{view}
 use Rattle.answers.specs.Answer.{reason-of, verdict-reason}
 use Rattle.answers.proofs.Laws.{reason-named}
-use Rattle.events.proofs.Laws.{joined, granted, refused}
+use Rattle.laws.proofs.Reasons.{in-a-row}
+use Rattle.events.proofs.Laws.{granted, refused}
 use Rattle.events.proofs.frame_arrived.frame_arrived.Statement.{statement}
 use Rattle.events.proofs.frame_arrived.frame_arrived.Tie as tie
 
@@ -68,9 +69,9 @@ found c =
     let judged = c .before .before .before in
     let bus : verdict-reason (judged .judge-on-bus .result) ≡ first-reason (on-bus (start c)) =
     rw (← judged .before .before .before .before .controller-at .ensures) (judged .judge-on-bus .ensures) in
-    joined (gate (start c)) (on-bus (start c) ++ arrival-checks (frame (start c))) refl
+    in-a-row (gate (start c)) (on-bus (start c) ++ arrival-checks (frame (start c))) refl
     (rw (judged .before .before .valid .ensures) at (judged .before .full-gate .ensures))
-    (joined (on-bus (start c)) (arrival-checks (frame (start c))) refl bus (c .before .before .judge-frame .ensures) (c .before .then .ensures))
+    (in-a-row (on-bus (start c)) (arrival-checks (frame (start c))) refl bus (c .before .before .judge-frame .ensures) (c .before .then .ensures))
     (c .then2 .ensures)
 
 -- where it accepts, they found nothing

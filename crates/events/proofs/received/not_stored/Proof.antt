@@ -1,12 +1,13 @@
 -- `events::received::not_stored` meets its contract: by the case of the pick; a sheet that is long enough takes the one notification.
 use borrow.Author.Needs.{needs}
+use native.Mathlib.Omega.{arith}
 use mathlib.Core.Path.{refl}
 use Rattle.rules.specs.Outcome.{unwanted}
 use Rattle.rules.specs.Reason.{return-code}
 use Rattle.rules.specs.Notification.{data-lost}
+use Rattle.layout.proofs.Placed.{put-first}
 use Rattle.places.specs.View.{view}
 use Rattle.events.proofs.Laws.{accepted-quietly}
-use Rattle.events.proofs.Arrivals.{put-first}
 use Rattle.events.proofs.received.not_stored.Statement.{statement}
 use Rattle.events.proofs.received.not_stored.Tie as tie
 
@@ -41,7 +42,7 @@ returns-2 c = λ ram.
       state-is = refl;
       count-is = refl;
       ram-is = refl;
-      sheet-is = put-first (data-lost (lost .full .given .0 .0)) (start .pre) (written .put .ensures);
+      sheet-is = put-first (data-lost (lost .full .given .0 .0)) (written .put .ensures) (omega (arith, start .pre));
     })
 
 pub not-stored-spec : {M : Type 1} → statement M

@@ -1,12 +1,13 @@
 -- `events::received::stored` meets its contract: the object is one of the chip's and the frame fits it, so that it is laid down whole.
 use borrow.Author.Needs.{needs}
 use mathlib.Core.Path.{refl, sym, ap}
+use lib.ListN.{length}
 use Rattle.rules.specs.Configuration.{ObjectConfig}
 use Rattle.rules.specs.Outcome.{stored-in}
 use Rattle.rules.specs.Can.{can-format}
+use Rattle.layout.proofs.Placed.{object-room, laid-whole}
 use Rattle.places.proofs.Laws.{object-seen}
 use Rattle.events.proofs.Laws.{accepted-quietly}
-use Rattle.events.proofs.Arrivals.{laid}
 use Rattle.events.proofs.received.stored.Statement.{statement}
 use Rattle.events.proofs.received.stored.Tie as tie
 
@@ -36,7 +37,7 @@ returns c = λ sheet.
     let padding = sym (ap (λ (o : ObjectConfig can-format). o .settings .padding) (object-seen (given .t1 .objects) (given .object))) in
     accepted-quietly (stored-in (given .object)) _ (c .with-mailbox .result) _ sheet refl
     (rw (← c .before .filled-mailbox .ensures) (c .with-mailbox .ensures))
-    (laid (given .object) _ 0 _ _ (start .pre .0) (start .pre .1) (start .pre .2) padding (down .lay-down .ensures))
+    (laid-whole _ (down .lay-down .ensures) (object-room (given .object) (length (given .sdu .now)) (given .ram .now) (start .pre .0) (start .pre .1) (start .pre .2)) padding)
 
 pub stored-spec : {M : Type 1} → statement M
 stored-spec =

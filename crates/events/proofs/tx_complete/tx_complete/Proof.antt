@@ -11,7 +11,8 @@ use Rattle.rules.specs.Chip.{chip}
 use Rattle.places.specs.View.{view}
 use Rattle.answers.specs.Answer.{verdict-reason}
 use Rattle.answers.proofs.Laws.{reason-named}
-use Rattle.events.proofs.Laws.{joined, granted, refused, accepted-quietly}
+use Rattle.laws.proofs.Reasons.{in-a-row}
+use Rattle.events.proofs.Laws.{granted, refused, accepted-quietly}
 use Rattle.events.proofs.tx_complete.tx_complete.Statement.{statement}
 use Rattle.events.proofs.tx_complete.tx_complete.Tie as tie
 
@@ -61,7 +62,7 @@ found c =
     let elements = c .before .before .before .before .before .before in
     let own : verdict-reason (c .before .judge-sent .result) ≡ first-reason (tx-complete-checks chip can-format s (start c .args .object)) =
     rw (← elements .before .before .object-at .ensures, ← elements .before .mailbox-at .ensures, ← elements .controller-at .ensures) (c .before .judge-sent .ensures) in
-    joined (state-gate chip can-format s) (tx-complete-checks chip can-format s (start c .args .object)) refl
+    in-a-row (state-gate chip can-format s) (tx-complete-checks chip can-format s (start c .args .object)) refl
     (rw (c .before .before .before .valid .ensures) at (c .before .before .state-gate .ensures)) own (c .then .ensures)
 
 returns : tie.Need-returns

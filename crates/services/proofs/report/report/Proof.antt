@@ -10,7 +10,7 @@ use Rattle.rules.specs.Reason.{is-development-error}
 use Rattle.rules.specs.Notification.{development-error, sheet-after}
 use Rattle.laws.proofs.Sheets.{sheet-none}
 use Rattle.answers.specs.Answer.{reason-of}
-use Rattle.services.proofs.Laws.{put-first}
+use Rattle.layout.proofs.Placed.{put-first}
 use Rattle.services.proofs.report.report.Statement.{statement}
 use Rattle.services.proofs.report.report.Tie as tie
 

@@ -6,7 +6,7 @@ use borrow.Author.Needs.{needs}
 use Rattle.rules.specs.Reason.{reasons-named}
 use Rattle.places.specs.View.{view-controller}
 use Rattle.services.specs.Checks.{in-use-checks, move-checks}
-use Rattle.services.proofs.Laws.{in-a-row}
+use Rattle.laws.proofs.Reasons.{in-a-row}
 use Rattle.services.proofs.set_controller_mode.judge_set_mode.Statement.{statement}
 use Rattle.services.proofs.set_controller_mode.judge_set_mode.Tie as tie
 

@@ -7,7 +7,7 @@ use Rattle.rules.specs.Reason.{reasons-named}
 use Rattle.rules.specs.Can.{Frame, write-checks}
 use Rattle.places.specs.View.{view-controller, view-object, view-mailbox}
 use Rattle.services.specs.Checks.{sending-checks, free-checks}
-use Rattle.services.proofs.Laws.{in-a-row}
+use Rattle.laws.proofs.Reasons.{in-a-row}
 use Rattle.services.proofs.write.judge_write.Statement.{statement}
 use Rattle.services.proofs.write.judge_write.Tie as tie
 

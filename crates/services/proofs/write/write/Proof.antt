@@ -22,7 +22,8 @@ use Rattle.layout.proofs.Lawful.{can-lawful}
 use Rattle.places.specs.View.{view, view-object, view-controller}
 use Rattle.answers.specs.Answer.{verdict-reason}
 use Rattle.services.proofs.Laws.{Service, gated, carried, has-room, passed, valid-state, whole-ram, performed, refused}
-use Rattle.services.proofs.Writes.{places-read, room-for, laid-whole}
+use Rattle.layout.proofs.Placed.{laid-whole}
+use Rattle.services.proofs.Writes.{places-read, room-for}
 use Rattle.services.proofs.write.write.Statement.{statement}
 use Rattle.services.proofs.write.write.Tie as tie
 
