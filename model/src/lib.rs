@@ -4,6 +4,7 @@
 //! *memory* is the lent mailbox memory, a *no* is a refused call.
 
 pub mod bench;
+pub mod compare;
 pub mod config;
 pub mod events;
 pub mod filter;

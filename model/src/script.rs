@@ -108,7 +108,7 @@ pub fn read<'a>(line: &[u8], bytes: &'a mut Vec<u8>) -> Result<Option<Command<'a
 }
 
 /// The words of a line, up to a comment, separated by spaces or tabs.
-fn words(line: &[u8]) -> impl Iterator<Item = &[u8]> {
+pub fn words(line: &[u8]) -> impl Iterator<Item = &[u8]> {
     let text = line.split(|&byte| byte == b'#').next().unwrap_or_default();
     text.split(|&byte| byte == b' ' || byte == b'\t').filter(|word| !word.is_empty())
 }
@@ -175,7 +175,7 @@ fn call<'a>(
 }
 
 /// A number, decimal or 0x hexadecimal, up to 4,294,967,295.
-fn number(word: &[u8]) -> Result<u32, Trouble> {
+pub fn number(word: &[u8]) -> Result<u32, Trouble> {
     let (digits, base) = match word.strip_prefix(b"0x") {
         Some(digits) => (digits, 16),
         None => (word, 10),

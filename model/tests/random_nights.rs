@@ -5,7 +5,7 @@
 use std::collections::{BTreeMap, BTreeSet};
 
 use pump_model::mailbox;
-use pump_model::nights::{Maker, Style};
+use pump_model::nights::{self, Maker, Style};
 
 /// A call as printed: name, code, answer and records.
 struct Printed {
@@ -231,6 +231,18 @@ fn a_night_depends_on_seed_and_style_only() {
         };
         assert_eq!(night(7), night(7));
         assert_ne!(night(7), night(8));
+    }
+}
+
+#[test]
+fn a_wild_night_with_an_odd_seed_has_an_open_end() {
+    for (seed, style, open) in
+        [(1, Style::Calm, false), (2, Style::Wild, false), (3, Style::Wild, true)]
+    {
+        let lines: Vec<Vec<u8>> = nights::night(seed, 50, style).collect();
+        assert_eq!(lines.len(), 50);
+        assert!(lines[..49].iter().all(|line| line.ends_with(b"\n")));
+        assert_eq!(lines[49].ends_with(b"\n"), !open, "seed {seed}");
     }
 }
 

@@ -4,7 +4,7 @@ use std::env;
 use std::io::{self, BufWriter, Write};
 use std::process::ExitCode;
 
-use pump_model::nights::{Maker, Style};
+use pump_model::nights::{self, Style};
 
 const USAGE: &str = "usage: nights SEED COUNT [calm|wild]";
 
@@ -29,25 +29,12 @@ fn understood(arguments: &[String]) -> Option<(u64, u64, Style)> {
         [seed, count, style] => (seed, count, style.as_str()),
         _ => return None,
     };
-    let style = match style {
-        "calm" => Style::Calm,
-        "wild" => Style::Wild,
-        _ => return None,
-    };
-    Some((seed.parse().ok()?, count.parse().ok()?, style))
+    Some((seed.parse().ok()?, count.parse().ok()?, Style::named(style)?))
 }
 
-/// Prints the night. In a wild night with an odd seed the last line has no
-/// line end.
 fn print_night(seed: u64, count: u64, style: Style) -> io::Result<()> {
-    let mut maker = Maker::new(seed, style);
     let mut output = BufWriter::with_capacity(1 << 16, io::stdout().lock());
-    let open_end = style == Style::Wild && seed % 2 == 1;
-    for number in 1..=count {
-        let mut line = maker.next_line();
-        if open_end && number == count {
-            line.truncate(line.trim_ascii_end().len());
-        }
+    for line in nights::night(seed, count, style) {
         output.write_all(&line)?;
     }
     output.flush()

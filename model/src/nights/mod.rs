@@ -24,6 +24,36 @@ pub enum Style {
     Wild,
 }
 
+impl Style {
+    /// The style of this name.
+    pub fn named(name: &str) -> Option<Style> {
+        [Style::Calm, Style::Wild].into_iter().find(|style| style.name() == name)
+    }
+
+    /// The name, as `nights` takes it.
+    pub fn name(self) -> &'static str {
+        match self {
+            Style::Calm => "calm",
+            Style::Wild => "wild",
+        }
+    }
+}
+
+/// The lines of a whole night. In a wild night with an odd seed the last line
+/// has no line end, and if it was blank it is gone.
+pub fn night(seed: u64, count: u64, style: Style) -> impl Iterator<Item = Vec<u8>> {
+    let mut maker = Maker::new(seed, style);
+    let open_end = style == Style::Wild && seed % 2 == 1;
+    let lines = (1..=count).map(move |number| {
+        let mut line = maker.next_line();
+        if open_end && number == count {
+            line.truncate(line.trim_ascii_end().len());
+        }
+        line
+    });
+    lines.filter(|line| !line.is_empty())
+}
+
 /// Makes the lines of one night.
 pub struct Maker {
     rng: Rng,

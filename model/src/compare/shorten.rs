@@ -1,0 +1,106 @@
+//! Simpler lines to try in place of a line.
+
+use crate::script;
+
+/// Simpler lines, the boldest first. Each is shorter, has fewer digits that
+/// matter, or has lost its odd line end or blanks, so that trying them comes
+/// to an end.
+pub fn simpler(line: &[u8]) -> Vec<Vec<u8>> {
+    let text = line.trim_ascii_end();
+    let words: Vec<&[u8]> = script::words(text).collect();
+    let mut lines = vec![joined(&words)];
+    lines.extend(cut(text));
+    for place in 1..words.len() {
+        for simple in replacements(words[place]) {
+            let mut words = words.clone();
+            words[place] = &simple;
+            lines.push(joined(&words));
+        }
+    }
+    lines.retain(|simpler| simpler != line);
+    lines
+}
+
+/// The words with nothing but one space between them, and a plain line end.
+pub fn joined(words: &[&[u8]]) -> Vec<u8> {
+    let mut line = words.join(&b' ');
+    line.push(b'\n');
+    line
+}
+
+/// The line without its second half, its last quarter and so on. The long
+/// words are the last of their lines; they keep whole bytes as far as may be.
+fn cut(text: &[u8]) -> Vec<Vec<u8>> {
+    let mut lines = Vec::new();
+    let mut size = text.len() / 2;
+    while size > 0 {
+        // Two digits are one byte.
+        let even = if size > 1 { size & !1 } else { size };
+        lines.push([&text[..text.len() - even], b"\n"].concat());
+        size /= 2;
+    }
+    lines
+}
+
+/// Simpler words: the smallest number, no bytes, as many zeros.
+fn replacements(word: &[u8]) -> Vec<Vec<u8>> {
+    if word == b"0" || word == b"-" {
+        return Vec::new();
+    }
+    let zeros = vec![b'0'; word.len()];
+    let mut words = vec![b"0".to_vec(), b"-".to_vec()];
+    if word != zeros {
+        words.push(zeros);
+    }
+    words
+}
+
+#[cfg(test)]
+mod tests {
+    use super::*;
+
+    fn simpler_than(line: &str) -> Vec<String> {
+        let text = |line: Vec<u8>| String::from_utf8(line).expect("plain text");
+        simpler(line.as_bytes()).into_iter().map(text).collect()
+    }
+
+    #[test]
+    fn dressing_goes_first() {
+        assert_eq!(simpler_than("\t get\t0  # x\r\n")[0], "get 0\n");
+        assert_eq!(simpler_than("state")[0], "state\n");
+        assert_eq!(simpler_than("# a comment\n")[0], "\n");
+    }
+
+    #[test]
+    fn ends_are_cut_by_whole_bytes() {
+        let lines = simpler_than("init 0123456789\n");
+        assert_eq!(lines[..3], ["init 0123\n", "init 01234567\n", "init 012345678\n"]);
+    }
+
+    #[test]
+    fn words_are_replaced() {
+        let lines = simpler_than("sent 31\n");
+        for line in ["sent 0\n", "sent -\n", "sent 00\n"] {
+            assert!(lines.contains(&line.to_string()), "{line:?}");
+        }
+        assert!(!lines.iter().any(|line| line == "sent 31\n"));
+        assert_eq!(simpler_than("\n"), Vec::<String>::new());
+    }
+
+    #[test]
+    fn trying_them_comes_to_an_end() {
+        for pick in 0..20 {
+            let mut line = b"\twrite 0x1F 65535 9fffffff 00FF-0 \t# x\r".to_vec();
+            let mut steps = 0;
+            loop {
+                let mut lines = simpler(&line);
+                if lines.is_empty() {
+                    break;
+                }
+                line = lines.swap_remove(pick % lines.len());
+                steps += 1;
+                assert!(steps < 100, "still {line:?}");
+            }
+        }
+    }
+}
