@@ -80,7 +80,7 @@ impl Bench {
     /// Plays one command.
     pub fn play(&mut self, command: Command) -> Played<'_> {
         match command {
-            Command::Call(call) => self.play_call(call),
+            Command::Call(call) => self.play_lent(call),
             Command::Sheet { words } => {
                 self.sheet_lent = words;
                 Played::Nothing
@@ -95,41 +95,48 @@ impl Bench {
     }
 
     /// Plays one call with the sheet and memory lent at present.
-    fn play_call(&mut self, call: Call) -> Played<'_> {
-        let state = &mut self.state;
+    fn play_lent(&mut self, call: Call) -> Played<'_> {
         let sheet = &mut self.sheet[..self.sheet_lent];
         let memory = lend(&mut self.memory, self.memory_lent, &mut self.long_memory);
-        match call {
-            Call::Init { bytes } => plain("init", state.init(bytes, sheet, memory), sheet),
-            Call::DeInit => plain("deinit", state.deinit(sheet, memory), sheet),
-            Call::Set { controller, mode } => {
-                plain("set", state.set_mode(controller, mode, sheet), sheet)
-            }
-            Call::Get { controller } => {
-                let outcome = state.get_mode(controller, sheet);
-                let mode = outcome.result.map_or(0, Mode::number);
-                answered("get", outcome, Answer::Mode(mode), sheet)
-            }
-            Call::Write { object, handle, identifier, data } => {
-                let outcome = state.write(object, handle, identifier, data, sheet, memory);
-                let answer = outcome.result.map_or(Answer::None, Answer::Object);
-                answered("write", outcome, answer, sheet)
-            }
-            Call::Poll(Poll::Write) => plain("poll-write", state.poll_write(sheet, memory), sheet),
-            Call::Poll(Poll::Read) => plain("poll-read", state.poll_read(sheet, memory), sheet),
-            Call::Poll(Poll::Mode) => plain("poll-mode", state.poll_mode(sheet, memory), sheet),
-            Call::Poll(Poll::BusOff) => {
-                plain("poll-busoff", state.poll_bus_off(sheet, memory), sheet)
-            }
-            Call::Sent { object } => plain("sent", state.sent(object), sheet),
-            Call::BusOff { controller } => plain("busoff", state.bus_off(controller), sheet),
-            Call::Arrived { controller, identifier, data } => {
-                let outcome = state.arrived(controller, identifier, data, sheet, memory);
-                let answer = outcome.result.map_or(Answer::None, Answer::Arrival);
-                answered("arrived", outcome, answer, sheet)
-            }
-            Call::Data { object } => Played::Data(mailbox::data_of(memory, object)),
+        play_call(&mut self.state, sheet, memory, call)
+    }
+}
+
+/// Plays one call with this sheet and memory.
+pub fn play_call<'a>(
+    state: &mut State,
+    sheet: &'a mut [u32],
+    memory: &'a mut [u8],
+    call: Call,
+) -> Played<'a> {
+    match call {
+        Call::Init { bytes } => plain("init", state.init(bytes, sheet, memory), sheet),
+        Call::DeInit => plain("deinit", state.deinit(sheet, memory), sheet),
+        Call::Set { controller, mode } => {
+            plain("set", state.set_mode(controller, mode, sheet), sheet)
         }
+        Call::Get { controller } => {
+            let outcome = state.get_mode(controller, sheet);
+            let mode = outcome.result.map_or(0, Mode::number);
+            answered("get", outcome, Answer::Mode(mode), sheet)
+        }
+        Call::Write { object, handle, identifier, data } => {
+            let outcome = state.write(object, handle, identifier, data, sheet, memory);
+            let answer = outcome.result.map_or(Answer::None, Answer::Object);
+            answered("write", outcome, answer, sheet)
+        }
+        Call::Poll(Poll::Write) => plain("poll-write", state.poll_write(sheet, memory), sheet),
+        Call::Poll(Poll::Read) => plain("poll-read", state.poll_read(sheet, memory), sheet),
+        Call::Poll(Poll::Mode) => plain("poll-mode", state.poll_mode(sheet, memory), sheet),
+        Call::Poll(Poll::BusOff) => plain("poll-busoff", state.poll_bus_off(sheet, memory), sheet),
+        Call::Sent { object } => plain("sent", state.sent(object), sheet),
+        Call::BusOff { controller } => plain("busoff", state.bus_off(controller), sheet),
+        Call::Arrived { controller, identifier, data } => {
+            let outcome = state.arrived(controller, identifier, data, sheet, memory);
+            let answer = outcome.result.map_or(Answer::None, Answer::Arrival);
+            answered("arrived", outcome, answer, sheet)
+        }
+        Call::Data { object } => Played::Data(mailbox::data_of(memory, object)),
     }
 }
 

@@ -88,6 +88,11 @@ impl Config {
         config.is_acceptable().then_some(config)
     }
 
+    /// One of these numbers, acceptable or not.
+    pub fn of(controllers: u8, objects: u8, places: [ObjectConfig; OBJECTS]) -> Config {
+        Config { controllers, objects, places }
+    }
+
     /// One that Init accepts: counts in range, every record good, unused places at rest.
     pub fn is_acceptable(&self) -> bool {
         let count = usize::from(self.objects);

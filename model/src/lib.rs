@@ -8,6 +8,7 @@ pub mod compare;
 pub mod config;
 pub mod events;
 pub mod filter;
+pub mod hostile;
 pub mod identifier;
 pub mod length;
 pub mod limits;

@@ -51,7 +51,7 @@ fn head(out: &mut Vec<u8>, line: u64, name: &str) {
     out.extend_from_slice(name.as_bytes());
 }
 
-fn print_answer(out: &mut Vec<u8>, answer: Answer) {
+pub(crate) fn print_answer(out: &mut Vec<u8>, answer: Answer) {
     match answer {
         Answer::None => out.push(b'-'),
         Answer::Mode(number) | Answer::Object(number) => print_number(out, number.into()),

@@ -3,7 +3,7 @@
 mod difference;
 mod made;
 mod objects;
-mod program;
+pub(crate) mod program;
 mod progress;
 mod report;
 mod settings;
@@ -50,7 +50,7 @@ fn compare(
     nights: mpsc::Receiver<Made>,
     out: &mut impl Write,
 ) -> Result<Verdict, Box<dyn Error>> {
-    let bench = Program { path: &settings.bench, piece: settings.piece };
+    let bench = Program { path: &settings.bench, arguments: &["words"], piece: settings.piece };
     let mut progress = Progress::default();
     let mut tally = Tally::default();
     for Made { seed, style, lines, expected } in nights {

@@ -7,17 +7,18 @@ use std::thread;
 /// A program that reads a script and prints an answer.
 pub struct Program<'a> {
     pub path: &'a str,
+    pub arguments: &'a [&'a str],
     /// How many bytes are written to it at once.
     pub piece: usize,
 }
 
 impl Program<'_> {
-    /// What the program prints in the words style, or why there is nothing to
+    /// What the program prints, or why there is nothing to
     /// compare. Its standard error is left as it is, for its last words.
     pub fn play(&self, script: &[u8]) -> Result<Vec<u8>, String> {
         let path = self.path;
         let mut child = Command::new(path)
-            .arg("words")
+            .args(self.arguments)
             .stdin(Stdio::piped())
             .stdout(Stdio::piped())
             .spawn()
@@ -55,7 +56,7 @@ mod tests {
     use super::*;
 
     fn play(path: &str, script: &[u8], piece: usize) -> Result<Vec<u8>, String> {
-        Program { path, piece }.play(script)
+        Program { path, arguments: &["words"], piece }.play(script)
     }
 
     #[test]

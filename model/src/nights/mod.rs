@@ -4,9 +4,9 @@
 //! what would be accepted next.
 
 mod calm;
-mod configs;
-mod frames;
-mod rng;
+pub(crate) mod configs;
+pub(crate) mod frames;
+pub(crate) mod rng;
 mod strange;
 mod wild;
 

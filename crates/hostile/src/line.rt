@@ -1,0 +1,121 @@
+// One line of the input: a case is played, and what came of it is put down.
+ghost use Rattle.io.specs.Counts.{Counts};
+use crate::call::Played;
+use crate::call::perform;
+use crate::case::CASE_BYTES;
+use crate::case::Case;
+use crate::case::read_case;
+use crate::pattern::fill_memory;
+use crate::pattern::fill_sheet;
+use crate::pattern::memory_same;
+use crate::pattern::sheet_same;
+use crate::print::answered;
+use crate::print::changes;
+use crate::print::unreadable;
+use crate::same::same;
+use config::bytes::after;
+use words::bytes::LONGEST_LINE;
+use words::bytes::MOST_BYTES;
+use words::reading::Reading;
+use words::split::word;
+
+// So many of the bytes, or all if there are fewer.
+pub fn of_bytes(n: usize, bytes: &[u8]) -> usize
+    ensures { λ r. ⌜ Counts r (now (bytes .entry)) ⌝ }
+{
+    if n < bytes.len() { n } else { bytes.len() }
+}
+
+// So many of the words, or all if there are fewer.
+fn of_words(n: usize, words: &[u32]) -> usize
+    ensures { λ r. ⌜ Counts r (now (words .entry)) ⌝ }
+{
+    if n < words.len() { n } else { words.len() }
+}
+
+// The call, with as much of the memory and the sheet as the case lends.
+fn performed(case: Case, data: &[u8], memory: &mut [u8], sheet: &mut [u32]) -> Played {
+    let state = case.state;
+    let call = case.call;
+    let lent_bytes = of_bytes(case.memory, memory);
+    let lent_words = of_words(case.sheet, sheet);
+    perform(
+        state,
+        &mut memory[..lent_bytes],
+        &mut sheet[..lent_words],
+        data,
+        call,
+    )
+}
+
+// What came of a call. Memory and sheet are looked at whole, also where they were not lent.
+fn told(
+    out: &mut [u8],
+    at: usize,
+    line: u64,
+    case: Case,
+    played: Played,
+    memory: &[u8],
+    sheet: &[u32],
+) -> usize {
+    let before = case.state;
+    let next = played.state;
+    let verdict = played.verdict;
+    let answer = played.answer;
+    let end = answered(out, at, line, verdict, answer, played.notifications);
+    let state_same = same(before, next);
+    changes(out, end, state_same, memory_same(memory), sheet_same(sheet))
+}
+
+// Plays the case that the bytes say.
+fn played(
+    out: &mut [u8],
+    at: usize,
+    line: u64,
+    bytes: &[u8],
+    memory: &mut [u8],
+    sheet: &mut [u32],
+) -> usize {
+    let case = read_case(bytes);
+    fill_memory(memory);
+    fill_sheet(sheet);
+    let played = performed(case, after(bytes, CASE_BYTES), memory, sheet);
+    told(out, at, line, case, played, memory, sheet)
+}
+
+// The first count bytes are enough for a case, or they are none.
+fn whole(
+    out: &mut [u8],
+    at: usize,
+    line: u64,
+    bytes: &[u8],
+    count: usize,
+    memory: &mut [u8],
+    sheet: &mut [u32],
+) -> usize {
+    if count < CASE_BYTES {
+        return unreadable(out, at, line);
+    }
+    let end = of_bytes(count, bytes);
+    played(out, at, line, &bytes[..end], memory, sheet)
+}
+
+// Plays the line with this number and answers the position behind what it puts down.
+pub fn play(
+    out: &mut [u8],
+    at: usize,
+    line: u64,
+    text: &[u8],
+    bytes: &mut [u8; MOST_BYTES],
+    memory: &mut [u8],
+    sheet: &mut [u32],
+) -> usize {
+    if LONGEST_LINE < text.len() {
+        return unreadable(out, at, line);
+    }
+    let reading = words::bytes::bytes(word(text, 0), bytes);
+    match reading {
+        Reading::Unreadable(_) => unreadable(out, at, line),
+        Reading::Value(n) => whole(out, at, line, bytes, n as usize, memory, sheet),
+    }
+}

@@ -1,0 +1,130 @@
+//! Comparing the driver with the model on states of any kind: sound ones,
+//! ones with a rule broken, and ones made of random numbers.
+
+mod breaks;
+mod calls;
+mod case;
+mod raw;
+mod rules;
+mod states;
+
+use std::fmt;
+
+use crate::compare::program::Program;
+use crate::nights::rng::Rng;
+use case::Case;
+use rules::RULES;
+
+/// How many cases the program is handed at once.
+const ROUND: usize = 1000;
+
+/// How many bytes are written to the program at once.
+const PIECE: usize = 65_536;
+
+/// How the state of a case was made.
+#[derive(Clone, Copy)]
+enum Origin {
+    Sound,
+    Broken(usize),
+    Random,
+}
+
+impl fmt::Display for Origin {
+    fn fmt(&self, f: &mut fmt::Formatter<'_>) -> fmt::Result {
+        match *self {
+            Origin::Sound => f.write_str("a sound state"),
+            Origin::Broken(rule) => {
+                write!(f, "a sound state but for one rule: {}", RULES[rule].wrong)
+            }
+            Origin::Random => f.write_str("a state of random numbers"),
+        }
+    }
+}
+
+/// The kinds of case take turns, and so do the rules.
+fn origin(number: usize) -> Origin {
+    match number % 3 {
+        0 => Origin::Sound,
+        1 => Origin::Broken(number / 3 % RULES.len()),
+        _ => Origin::Random,
+    }
+}
+
+/// The case with this number.
+fn make(seed: u64, number: usize) -> Case {
+    let mut rng = Rng::new(Rng::new(seed).bits() ^ number as u64);
+    let raw = match origin(number) {
+        Origin::Sound => states::sound(&mut rng),
+        Origin::Broken(rule) => RULES[rule].broken(&mut rng),
+        Origin::Random => states::random(&mut rng),
+    };
+    calls::case(&mut rng, raw)
+}
+
+/// Plays so many cases. What is told of them is `Ok` if they all agree and
+/// `Err` if one differs; an outer error means that nothing could be compared.
+pub fn run(path: &str, seed: u64, count: usize) -> Result<Result<String, String>, String> {
+    let program = Program { path, arguments: &[], piece: PIECE };
+    let mut tally = Tally::default();
+    for start in (0..count).step_by(ROUND) {
+        let numbers = start..count.min(start + ROUND);
+        let cases: Vec<Case> = numbers.clone().map(|number| make(seed, number)).collect();
+        let script: String = cases.iter().map(|case| case.word() + "\n").collect();
+        let printed = program.play(script.as_bytes())?;
+        let printed = String::from_utf8_lossy(&printed);
+        let mut lines = printed.lines();
+        for (line, (number, case)) in numbers.zip(&cases).enumerate() {
+            let expected = format!("{} {}", line + 1, case.expected());
+            let got = lines.next().unwrap_or("nothing");
+            if got != expected {
+                return Ok(Err(difference(number, case, got, &expected)));
+            }
+            tally.add(origin(number), &expected);
+        }
+        if let Some(more) = lines.next() {
+            return Ok(Err(format!("a line too many: {more}")));
+        }
+    }
+    Ok(Ok(tally.to_string()))
+}
+
+fn difference(number: usize, case: &Case, got: &str, expected: &str) -> String {
+    format!(
+        "case {number}, {}\n{}\nprogram: {got}\nmodel:   {expected}",
+        origin(number),
+        case.word()
+    )
+}
+
+/// How many cases of each kind agree.
+#[derive(Default)]
+struct Tally {
+    sound: usize,
+    accepted: usize,
+    broken: usize,
+    random: usize,
+}
+
+impl Tally {
+    fn add(&mut self, origin: Origin, line: &str) {
+        match origin {
+            Origin::Sound => self.sound += 1,
+            Origin::Broken(_) => self.broken += 1,
+            Origin::Random => self.random += 1,
+        }
+        self.accepted += usize::from(line.split(' ').nth(1) == Some("0"));
+    }
+}
+
+impl fmt::Display for Tally {
+    fn fmt(&self, f: &mut fmt::Formatter<'_>) -> fmt::Result {
+        let Tally { sound, accepted, broken, random } = self;
+        write!(
+            f,
+            "{} cases agree: {sound} of sound states, {broken} with one of {} rules broken, \
+             {random} of random numbers; {accepted} calls are accepted",
+            sound + broken + random,
+            RULES.len()
+        )
+    }
+}

@@ -1,0 +1,136 @@
+//! A driver state as raw numbers: anything that a caller can hand in.
+
+use crate::config::{Config, Kind, ObjectConfig};
+use crate::limits::{CONTROLLERS, OBJECTS};
+use crate::mode::Mode;
+use crate::state::{ControllerPlace, ObjectPlace, State};
+
+/// A controller's place.
+#[derive(Clone, Copy, Debug, Default, PartialEq, Eq)]
+pub struct RawController {
+    pub mode: u8,
+    /// The mode asked for, 0 for none.
+    pub request: u8,
+    pub off_bus: bool,
+}
+
+/// An object's configuration.
+#[derive(Clone, Copy, Debug, Default, PartialEq, Eq)]
+pub struct RawObject {
+    pub controller: u32,
+    pub receiving: bool,
+    pub payload: u32,
+    pub padding: u8,
+    pub code: u32,
+    pub mask: u32,
+}
+
+/// A whole state; the default is the one at rest.
+#[derive(Clone, Debug, Default, PartialEq, Eq)]
+pub struct Raw {
+    pub initialised: bool,
+    pub controller_count: u32,
+    pub object_count: u32,
+    pub controllers: [RawController; CONTROLLERS],
+    pub objects: [RawObject; OBJECTS],
+    pub mailboxes: [ObjectPlace; OBJECTS],
+}
+
+impl Raw {
+    /// The numbers of a state.
+    pub fn of(state: &State) -> Raw {
+        let mut raw = Raw {
+            initialised: state.initialised,
+            controller_count: state.config.controllers() as u32,
+            object_count: state.config.objects().len() as u32,
+            mailboxes: state.objects,
+            controllers: state.controllers.map(raw_controller),
+            ..Raw::default()
+        };
+        for (object, config) in raw.objects.iter_mut().zip(state.config.objects()) {
+            *object = raw_object(config);
+        }
+        raw
+    }
+
+    /// The state that the numbers say, if it is sound. Numbers that the
+    /// state's types cannot hold say none.
+    pub fn sound(&self) -> Option<State> {
+        let counts = (self.controller_count.try_into().ok()?, self.object_count.try_into().ok()?);
+        let mut places = [ObjectConfig::default(); OBJECTS];
+        for (place, object) in places.iter_mut().zip(&self.objects) {
+            *place = object_config(object)?;
+        }
+        let mut controllers = [ControllerPlace::default(); CONTROLLERS];
+        for (place, controller) in controllers.iter_mut().zip(&self.controllers) {
+            *place = controller_place(controller)?;
+        }
+        let config = Config::of(counts.0, counts.1, places);
+        let objects = self.mailboxes;
+        let state = State { initialised: self.initialised, config, controllers, objects };
+        state.is_sound().then_some(state)
+    }
+
+    /// The bytes of a case that are its state.
+    pub fn encode(&self, out: &mut Vec<u8>) {
+        out.push(self.initialised.into());
+        out.extend(self.controller_count.to_be_bytes());
+        out.extend(self.object_count.to_be_bytes());
+        for place in &self.controllers {
+            out.extend([place.mode, place.request, place.off_bus.into()]);
+        }
+        for object in &self.objects {
+            out.extend(object.controller.to_be_bytes());
+            out.push(object.receiving.into());
+            out.extend(object.payload.to_be_bytes());
+            out.push(object.padding);
+            out.extend(object.code.to_be_bytes());
+            out.extend(object.mask.to_be_bytes());
+        }
+        for place in &self.mailboxes {
+            out.extend([place.occupied, place.gone, place.full].map(u8::from));
+        }
+    }
+}
+
+fn raw_controller(place: ControllerPlace) -> RawController {
+    RawController {
+        mode: place.mode as u8,
+        request: place.request.map_or(0, |wish| wish as u8),
+        off_bus: place.off_bus,
+    }
+}
+
+fn raw_object(config: &ObjectConfig) -> RawObject {
+    RawObject {
+        controller: config.controller.into(),
+        receiving: config.kind == Kind::Receiving,
+        payload: config.payload.into(),
+        padding: config.padding,
+        code: config.code,
+        mask: config.mask,
+    }
+}
+
+fn object_config(object: &RawObject) -> Option<ObjectConfig> {
+    Some(ObjectConfig {
+        controller: object.controller.try_into().ok()?,
+        kind: if object.receiving { Kind::Receiving } else { Kind::Sending },
+        payload: object.payload.try_into().ok()?,
+        padding: object.padding,
+        code: object.code,
+        mask: object.mask,
+    })
+}
+
+fn controller_place(controller: &RawController) -> Option<ControllerPlace> {
+    let mode = match controller.mode {
+        0 => Mode::Uninit,
+        number => Mode::requested(number.into())?,
+    };
+    let request = match controller.request {
+        0 => None,
+        number => Some(Mode::requested(number.into())?),
+    };
+    Some(ControllerPlace { mode, request, off_bus: controller.off_bus })
+}
