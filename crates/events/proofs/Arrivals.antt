@@ -1,21 +1,20 @@
 -- What an arrival that passes its checks tells, and that the object chosen is in use.
 use Prim.Native.Nat.{ℕ, _≤_, _<_, _+_}
-use native.Mathlib.Omega.{arith}
 use mathlib.Core.Path.{_≡_, refl}
-use mathlib.Core.Bool.{Bool, true, false, cond, _&&_}
-use mathlib.Core.List.{List, [], _∷_, _++_}
+use mathlib.Core.Bool.{Bool}
+use mathlib.Core.List.{List, _++_}
 use mathlib.Core.Option.{some}
 use lib.ListN.{length}
-use lib.Dec.{leb, eqb}
-use borrow.Author.Tests.{eqb-true, ltb-false, leb-true, le-leb}
-use Rattle.rules.specs.Limits.{ram-size, sheet-size, object-start}
+use lib.Dec.{eqb}
+use borrow.Author.Tests.{eqb-true, ltb-false}
+use Rattle.rules.specs.Limits.{ram-size, sheet-size}
 use Rattle.rules.specs.Reason.{first-reason, reasons-named}
 use Rattle.rules.specs.State.{State, valid}
 use Rattle.rules.specs.Outcome.{full-gate}
 use Rattle.rules.specs.Events.{frame-arrived-checks, best-object}
-use Rattle.rules.specs.Can.{Frame, Settings, is-fd, wire-length, is-wire-length, longest-classic, longest-fd, object-bytes, can-format}
+use Rattle.rules.specs.Can.{Frame, is-fd, wire-length, is-wire-length, longest-fd, can-format}
 use Rattle.rules.specs.Chip.{chip}
-use Rattle.laws.proofs.Tests.{both, left, not-false}
+use Rattle.laws.proofs.Tests.{not-false}
 use Rattle.laws.proofs.Reasons.{check-passed}
 use Rattle.laws.proofs.Validity.{valid-facts}
 use Rattle.laws.proofs.Changes.{objects-within}

@@ -1,11 +1,11 @@
 -- What an event owes from the reason that its checks find: a refused one leaves everything as it was, an accepted one owes its own
 -- outcome.
 use Prim.Native.Nat.{ℕ}
-use mathlib.Core.Path.{_≡_, refl, sym, _∙_}
-use mathlib.Core.Bool.{true, false, cond}
-use mathlib.Core.List.{List, [], _++_}
+use mathlib.Core.Path.{_≡_, refl, sym}
+use mathlib.Core.Bool.{false}
+use mathlib.Core.List.{List, []}
 use lib.Dec.{eqb}
-use Rattle.rules.specs.Reason.{Check, first-reason, reasons-named, return-code}
+use Rattle.rules.specs.Reason.{return-code}
 use Rattle.rules.specs.Outcome.{Outcome, Answer, no-answer, no-report, rejected, accepted, judged}
 use Rattle.rules.specs.State as rules
 use Rattle.rules.specs.Can.{can-format}

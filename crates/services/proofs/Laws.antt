@@ -4,14 +4,12 @@ use Prim.Native.Nat.{ℕ, _+_, _≤_}
 use native.Mathlib.Omega.{arith}
 use mathlib.Core.Path.{_≡_, refl, sym, ap, _∙_}
 use mathlib.Core.Bool.{Bool, true, false, cond}
-use mathlib.Core.List.{List, [], _∷_, _++_, map, append-nil}
-use lib.ListN.{length, drop, set, length-map, drop-of-length-le}
-use lib.Seq.{set-out}
+use mathlib.Core.List.{List, [], _∷_, _++_, append-nil}
+use lib.ListN.{length, drop, drop-of-length-le}
 use lib.Dec.{eqb, ltb}
-use borrow.Author.Tests.{eqb-true, ltb-false, le-leb}
+use borrow.Author.Tests.{eqb-true, ltb-false}
 use Rattle.rules.specs.Limits.{sheet-size, ram-size}
 use Rattle.rules.specs.Bytes.{splice}
-use Rattle.rules.specs.Notification.{Notification, sheet-after}
 use Rattle.rules.specs.Reason.{Check, _if_, first-reason, reasons-named, return-code, is-development-error, INVALID-STATE, SHEET-TOO-SHORT}
 use Rattle.rules.specs.State as rules
 use Rattle.rules.specs.Outcome.{Outcome, Answer, service-report, rejected, accepted, judged, sheet-check, full-gate}
@@ -20,8 +18,8 @@ use Rattle.rules.specs.Chip.{chip}
 use Rattle.laws.proofs.Tests.{clash, not-false}
 use Rattle.laws.proofs.Reasons.{front-passed, rest-passed, check-passed, in-a-row, judged-accepts, judged-refuses}
 use Rattle.laws.proofs.Splices.{splice-is}
-use Rattle.laws.proofs.Sheets.{all-words-one, sheet-none}
-use Rattle.layout.specs.Sheet.{words-each, Put}
+use Rattle.laws.proofs.Sheets.{sheet-none}
+use Rattle.layout.specs.Sheet.{words-each}
 use Rattle.places.specs.View.{view}
 use Rattle.places.specs.declared.state.State.{State}
 use Rattle.answers.specs.Answer.{reason-of, verdict-reason}

@@ -1,20 +1,20 @@
 -- What the proof of Write rests on: the checks on the places that were read are the rules' own, and an accepted frame has room in memory.
-use Prim.Native.Nat.{ℕ, _+_, _≤_, _<_}
+use Prim.Native.Nat.{ℕ}
 use native.Mathlib.Omega.{arith}
-use mathlib.Core.Path.{_≡_, refl, _∙_}
-use mathlib.Core.Bool.{Bool, true, false, cond, not, _&&_}
+use mathlib.Core.Path.{_≡_, _∙_}
+use mathlib.Core.Bool.{Bool, true, not}
 use mathlib.Core.List.{List}
 use lib.ListN.{length}
-use lib.Dec.{eqb, ltb, leb}
-use borrow.Author.Tests.{ltb-true, leb-true, le-leb}
-use Rattle.rules.specs.Limits.{object-start, ram-size}
-use Rattle.rules.specs.Reason.{first-reason, reasons-named}
+use lib.Dec.{ltb}
+use borrow.Author.Tests.{ltb-true}
+use Rattle.rules.specs.Limits.{ram-size}
+use Rattle.rules.specs.Reason.{first-reason}
 use Rattle.rules.specs.Configuration.{ObjectConfig, object-at}
 use Rattle.rules.specs.State.{Controller, Mailbox, State, valid}
 use Rattle.rules.specs.Can as can
-use Rattle.rules.specs.Can.{Frame, Settings, can-format, is-fd, length-fits, longest-classic, longest-fd, object-bytes}
+use Rattle.rules.specs.Can.{Frame, can-format}
 use Rattle.rules.specs.Chip.{chip}
-use Rattle.laws.proofs.Tests.{both, left, not-false}
+use Rattle.laws.proofs.Tests.{left}
 use Rattle.laws.proofs.Validity.{valid-facts}
 use Rattle.laws.proofs.Changes.{objects-within}
 use Rattle.laws.proofs.Acceptance.{WritePassed}

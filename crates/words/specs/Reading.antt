@@ -1,14 +1,14 @@
 -- Numbers, identifiers and bytes as words.
-use Prim.Native.Nat.{ℕ, zero, suc, _+_, _*_, _-_, _/_, _%_, _^_}
+use Prim.Native.Nat.{ℕ, _+_, _*_, _-_, _/_, _%_, _^_}
 use mathlib.Core.Path.{_≡_}
-use mathlib.Core.Bool.{Bool, true, false, not, cond, _&&_, _||_}
+use mathlib.Core.Bool.{Bool, not, cond, _&&_}
 use mathlib.Core.List.{List, [], _∷_}
 use lib.ListN.{length, take, drop, getD}
 use lib.Dec.{eqb, ltb, leb}
 use Rattle.rules.specs.Bytes.{same-bytes, splice}
 use Rattle.rules.specs.Repeat.{rising, all-below, list-below}
 use Rattle.words.specs.declared.reading.Trouble.{Trouble}
-use Rattle.words.specs.declared.reading.Trouble.the-variants.{LineTooLong, NotANumber, NumberTooLarge, NotAnIdentifier, IdentifierTooLong, NotHexDigits, OddDigits, NotAMode, HandleTooLarge}
+use Rattle.words.specs.declared.reading.Trouble.the-variants.{LineTooLong, NotANumber, NumberTooLarge, NotAnIdentifier, IdentifierTooLong, NotHexDigits, OddDigits, NotAMode}
 use Rattle.words.specs.declared.reading.Reading.{Reading}
 use Rattle.words.specs.declared.reading.Reading.the-variants.{Value, Unreadable}
 
