@@ -10,9 +10,10 @@ use mathlib.Core.Bool.{Bool, true, false, cond, _&&_, and-true}
 use mathlib.Core.List.{List, [], _∷_, _++_, map}
 use lib.ListN.{length, getD, set, replicate, length-map, List·getD-map, List·getD-eq-default, replicate-append-replicate}
 use lib.Seq.{set-out}
-use lib.Dec.{ltb}
-use borrow.Author.Tests.{lt-ltb, le-ltb}
+use lib.Dec.{eqb, ltb}
+use borrow.Author.Tests.{lt-ltb, le-ltb, ltb-true, ltb-false}
 use Rattle.rules.specs.Repeat.{all-below, list-below}
+use Rattle.rules.specs.Mode.{STARTED}
 use Rattle.rules.specs.Configuration as configuration
 use Rattle.rules.specs.State as rules
 use Rattle.rules.specs.Can.{can-format}
@@ -21,7 +22,8 @@ use Rattle.places.specs.declared.controller.Controller.{Controller}
 use Rattle.places.specs.declared.object.ObjectConfig.{ObjectConfig}
 use Rattle.places.specs.declared.mailbox.Mailbox.{Mailbox}
 use Rattle.places.specs.View.{view-controller, view-object, view-mailbox}
-use Rattle.places.specs.Range.{all-in-use, all-unused}
+use Rattle.places.specs.Range.{all-in-use}
+use Rattle.places.specs.Place.{is-started-at}
 
 and-false : (b : Bool) → (b && false) ≡ false
 and-false true = refl
@@ -60,10 +62,6 @@ all-below-from p m (suc n) l h =
     rw (h n le (omega arith)) (and-true (all-below n p) ∙ all-below-from p m n le (λ i a b. h i a (omega arith))))
     (eq-or-lt-of-le l)
 
-choice : (t a b : Bool) → (cond t a true && cond t true b) ≡ cond t a b
-choice true a b = and-true a
-choice false a b = refl
-
 choices : (t a₁ a₂ b₁ b₂ : Bool) → cond t (a₁ && a₂) (b₁ && b₂) ≡ (cond t a₁ b₁ && cond t a₂ b₂)
 choices true a₁ a₂ b₁ b₂ = refl
 choices false a₁ a₂ b₁ b₂ = refl
@@ -75,29 +73,12 @@ module _ (n count : ℕ) (p : ℕ → Bool) where
       all-below-ext m p (λ i. cond (ltb i count) (p i) true) (λ i l. rw (lt-ltb i count (omega arith)))
       ∙ sym (all-below-from (λ i. cond (ltb i count) (p i) true) m n (omega arith) (λ i a b. rw (le-ltb i count (omega arith))))
 
-  -- Below the count no place is unused.
-  pub unused-none : n ≤ count → all-unused n count p ≡ true
-  unfolding all-below
-  unused-none l = all-below-from (λ i. cond (ltb i count) true (p i)) 0 n (omega arith) (λ i a b. rw (lt-ltb i count (omega arith)))
-
-  -- From the count on each place is unused.
-  pub unused-more : {ok r : Bool} → count ≤ n → ok ≡ all-unused n count p → r ≡ p n → (ok && r) ≡ all-unused (n + 1) count p
-  unused-more l e q = all-below-more (λ i. cond (ltb i count) true (p i)) n e (rw (le-ltb n count l) q)
-
-  -- One test for the places in use and another for the unused ones.
-  pub by-use : (q : ℕ → Bool) → (all-in-use n count p && all-unused n count q) ≡ all-below n (λ i. cond (ltb i count) (p i) (q i))
-  by-use q =
-      all-below-and n (λ i. cond (ltb i count) (p i) true) (λ i. cond (ltb i count) true (q i))
-      ∙ all-below-ext n (λ i. cond (ltb i count) (p i) true && cond (ltb i count) true (q i)) (λ i. cond (ltb i count) (p i) (q i))
-      (λ i l. choice (ltb i count) (p i) (q i))
-
--- The same with two tests of each place.
-pub by-use-twice : (n count : ℕ) (p₁ p₂ q₁ q₂ : ℕ → Bool)
-    → (all-in-use n count (λ i. p₁ i && p₂ i) && all-unused n count (λ i. q₁ i && q₂ i))
+-- Two tests of each place in use, and two others of each unused one.
+pub by-use : (n count : ℕ) (p₁ p₂ q₁ q₂ : ℕ → Bool)
+    → all-below n (λ i. cond (ltb i count) (p₁ i && p₂ i) (q₁ i && q₂ i))
     ≡ (all-below n (λ i. cond (ltb i count) (p₁ i) (q₁ i)) && all-below n (λ i. cond (ltb i count) (p₂ i) (q₂ i)))
-by-use-twice n count p₁ p₂ q₁ q₂ =
-    by-use n count (λ i. p₁ i && p₂ i) (λ i. q₁ i && q₂ i)
-    ∙ all-below-ext n (λ i. cond (ltb i count) (p₁ i && p₂ i) (q₁ i && q₂ i))
+by-use n count p₁ p₂ q₁ q₂ =
+    all-below-ext n (λ i. cond (ltb i count) (p₁ i && p₂ i) (q₁ i && q₂ i))
     (λ i. cond (ltb i count) (p₁ i) (q₁ i) && cond (ltb i count) (p₂ i) (q₂ i))
     (λ i l. choices (ltb i count) (p₁ i) (p₂ i) (q₁ i) (q₂ i))
     ∙ sym (all-below-and n (λ i. cond (ltb i count) (p₁ i) (q₁ i)) (λ i. cond (ltb i count) (p₂ i) (q₂ i)))
@@ -114,6 +95,23 @@ empty-mailbox = record { «tx_pending» = false; «tx_done» = false; «rx_full�
 
 pub controller-seen : (ks : List Controller) (c : ℕ) → rules.controller-at (map view-controller ks) c ≡ view-controller (getD ks c idle-controller)
 controller-seen ks c = List·getD-map view-controller ks c idle-controller
+
+-- Whether controller c is STARTED: past the last place it is not, whatever stands there.
+pub started-seen : (ks : List Controller) (c last : ℕ) → length ks ≡ last + 1
+    → (ltb c (last + 1) && eqb (getD ks (min c last) idle-controller .mode) STARTED) ≡ is-started-at (map view-controller ks) c
+started-seen ks c last e = go (ltb c (last + 1)) refl
+  where
+    seen : is-started-at (map view-controller ks) c ≡ eqb (getD ks c idle-controller .mode) STARTED
+    seen = ap rules.is-started (controller-seen ks c)
+
+    go : (b : Bool) → ltb c (last + 1) ≡ b → (b && eqb (getD ks (min c last) idle-controller .mode) STARTED) ≡ is-started-at (map view-controller ks) c
+    go true t =
+        let within = ltb-true c (last + 1) t in
+        let same : min c last ≡ c = omega arith in
+        ap (λ (i : ℕ). eqb (getD ks i idle-controller .mode) STARTED) same ∙ sym seen
+    go false t =
+        let past : length ks ≤ c = omega (arith, ltb-false c (last + 1) t) in
+        sym (seen ∙ ap (λ (k : Controller). eqb (k .mode) STARTED) (List·getD-eq-default ks idle-controller past))
 
 pub object-seen : (os : List ObjectConfig) (h : ℕ)
     → getD (map view-object os) h (configuration.unused-object chip can-format) ≡ view-object (getD os h unused-object)

@@ -7,7 +7,3 @@ use Rattle.rules.specs.Repeat.{all-below}
 -- p holds of every place in use
 abbrev pub all-in-use : ℕ → ℕ → (ℕ → Bool) → Bool
 all-in-use n count p = all-below n (λ i. cond (ltb i count) (p i) true)
-
--- p holds of every unused place
-abbrev pub all-unused : ℕ → ℕ → (ℕ → Bool) → Bool
-all-unused n count p = all-below n (λ i. cond (ltb i count) true (p i))

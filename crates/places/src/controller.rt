@@ -1,5 +1,6 @@
 // One controller: its mode, a waiting request, and the off-bus mark.
 ghost use mathlib.Core.Path.{_≡_};
+ghost use mathlib.Core.Bool.{cond};
 ghost use Rattle.rules.specs.Mode as modes;
 ghost use Rattle.rules.specs.State as state;
 ghost use Rattle.places.specs.View as view;
@@ -58,4 +59,15 @@ pub fn controller_idle(k: Controller) -> bool
     ensures { λ r. ⌜ r ≡ state.controller-idle (view.view-controller k) ⌝ }
 {
     (k.mode == UNINIT) & (k.requested_mode == NO_REQUEST) & !k.bus_off
+}
+
+// A controller in use is valid, any other place is at rest.
+pub fn controller_place_valid(in_use: bool, k: Controller) -> bool
+    ensures { λ r. ⌜ r ≡ cond «in_use» (state.controller-valid (view.view-controller k)) (state.controller-idle (view.view-controller k)) ⌝ }
+{
+    if in_use {
+        controller_valid(k)
+    } else {
+        controller_idle(k)
+    }
 }

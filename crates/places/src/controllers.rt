@@ -1,15 +1,13 @@
 // All controllers of a state.
 ghost use mathlib.Core.Path.{_≡_};
 ghost use mathlib.Core.List.{map};
+ghost use Rattle.rules.specs.Repeat.{all-below};
 ghost use Rattle.rules.specs.Chip.{chip};
 ghost use Rattle.places.specs.View.{view-controller};
-ghost use Rattle.places.specs.Range.{all-in-use, all-unused};
-ghost use Rattle.places.specs.Place.{controller-valid-at, controller-idle-at, is-started-at};
+ghost use Rattle.places.specs.Place.{controller-place-valid-at, is-started-at};
 use crate::controller::Controller;
 use crate::controller::STARTED;
-use crate::controller::controller_idle;
-use crate::controller::controller_valid;
-use crate::range::limited;
+use crate::controller::controller_place_valid;
 use chip::CONTROLLERS;
 
 // Whether controller c is STARTED; past the last place there is none.
@@ -24,28 +22,15 @@ pub fn is_started_at(controllers: [Controller; CONTROLLERS], c: usize) -> bool
     }
 }
 
-// Each controller in use is valid.
-pub fn controllers_in_use_valid(controllers: [Controller; CONTROLLERS], count: usize) -> bool
-    ensures { λ r. ⌜ r ≡ all-in-use (chip .controllers) count (controller-valid-at (map view-controller controllers)) ⌝ }
+// Each controller in use is valid, and each other place is at rest.
+pub fn controllers_valid(controllers: [Controller; CONTROLLERS], count: usize) -> bool
+    ensures { λ r. ⌜ r ≡ all-below (chip .controllers) (controller-place-valid-at (map view-controller controllers) count) ⌝ }
 {
-    let end = limited(count, CONTROLLERS);
     let mut ok = true;
-    for c in 0..end {
-        let valid = controller_valid(controllers[c]);
+    for c in 0..CONTROLLERS {
+        let in_use = c < count;
+        let valid = controller_place_valid(in_use, controllers[c]);
         ok = ok & valid;
-    }
-    ok
-}
-
-// Each unused controller place is at rest.
-pub fn controllers_unused(controllers: [Controller; CONTROLLERS], count: usize) -> bool
-    ensures { λ r. ⌜ r ≡ all-unused (chip .controllers) count (controller-idle-at (map view-controller controllers)) ⌝ }
-{
-    let start = limited(count, CONTROLLERS);
-    let mut ok = true;
-    for c in start..CONTROLLERS {
-        let idle = controller_idle(controllers[c]);
-        ok = ok & idle;
     }
     ok
 }

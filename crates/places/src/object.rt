@@ -5,14 +5,15 @@ ghost use Rattle.rules.specs.Can.{can-format};
 ghost use Rattle.rules.specs.Chip.{chip};
 ghost use Rattle.places.specs.View as view;
 
-// Its controller, its kind, and what the configuration says of its frames.
+// Its controller, what the configuration says of its frames, and its kind. The widest fields come first: a place then takes 24 bytes and
+// not 32, and the state is copied with every call.
 pub struct ObjectConfig {
     pub controller: usize,
-    pub receiving: bool,
     pub payload: u32,
-    pub padding: u8,
     pub code: u32,
     pub mask: u32,
+    pub padding: u8,
+    pub receiving: bool,
 }
 
 // A place at rest.

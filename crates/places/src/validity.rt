@@ -7,10 +7,8 @@ ghost use Rattle.rules.specs.State as rules;
 ghost use Rattle.rules.specs.Can.{can-format};
 ghost use Rattle.rules.specs.Chip.{chip};
 ghost use Rattle.places.specs.View.{view};
-use crate::controllers::controllers_in_use_valid;
-use crate::controllers::controllers_unused;
-use crate::objects::objects_in_use_valid;
-use crate::objects::objects_unused;
+use crate::controllers::controllers_valid;
+use crate::objects::objects_valid;
 use crate::state::State;
 use chip::CONTROLLERS;
 use chip::OBJECTS;
@@ -48,15 +46,13 @@ pub fn valid(s: State) -> bool
     let objects = s.objects;
     let mailboxes = s.mailboxes;
     let counts = counts_suit(s.initialised, s.controller_count, s.object_count);
-    let controllers_valid = controllers_in_use_valid(controllers, s.controller_count);
-    let controllers_idle = controllers_unused(controllers, s.controller_count);
-    let objects_valid = objects_in_use_valid(
+    let controllers_valid = controllers_valid(controllers, s.controller_count);
+    let objects_valid = objects_valid(
         controllers,
         s.controller_count,
         objects,
         mailboxes,
         s.object_count,
     );
-    let objects_idle = objects_unused(objects, mailboxes, s.object_count);
-    counts & (controllers_valid & controllers_idle) & (objects_valid & objects_idle)
+    counts & controllers_valid & objects_valid
 }

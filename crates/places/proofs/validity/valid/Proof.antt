@@ -1,5 +1,4 @@
--- `places::validity::valid` meets its contract: the places in use and the unused ones together are all places, and an array has as many
--- places as the rules ask.
+-- `places::validity::valid` meets its contract: the tests of all places are the rules' own, and an array has as many places as they ask.
 use mathlib.Core.Path.{_≡_, refl}
 use mathlib.Core.Bool.{Bool, true, false, cond, _&&_}
 use mathlib.Core.List.{List}
@@ -10,27 +9,21 @@ use Rattle.rules.specs.Can.{can-format}
 use Rattle.rules.specs.Chip.{chip}
 use Rattle.places.specs.declared.state.State.{State}
 use Rattle.places.specs.View.{view-controller, view-object, view-mailbox, view}
-use Rattle.places.specs.Range.{all-in-use, all-unused}
-use Rattle.places.specs.Place.{controller-valid-at, controller-idle-at, object-valid-at, object-unused-at, mailbox-valid-at, mailbox-empty-at, place-valid-at, place-unused-at}
+use Rattle.rules.specs.Repeat.{all-below}
+use Rattle.places.specs.Place.{controller-place-valid-at, object-valid-at, object-unused-at, mailbox-valid-at, mailbox-empty-at, object-and-mailbox-valid-at}
 use borrow.Author.Needs.{needs}
-use Rattle.places.proofs.Laws.{by-use, by-use-twice, length-of-map}
+use Rattle.places.proofs.Laws.{by-use, length-of-map}
 use Rattle.places.proofs.validity.valid.Statement.{statement}
 use Rattle.places.proofs.validity.valid.Tie as tie
 
 counts-suit-requires : tie.Need-counts-suit-requires
 counts-suit-requires c κs = search needs
 
-controllers-in-use-valid-requires : tie.Need-controllers-in-use-valid-requires
-controllers-in-use-valid-requires c κs = search needs
+controllers-valid-requires : tie.Need-controllers-valid-requires
+controllers-valid-requires c κs = search needs
 
-controllers-unused-requires : tie.Need-controllers-unused-requires
-controllers-unused-requires c κs = search needs
-
-objects-in-use-valid-requires : tie.Need-objects-in-use-valid-requires
-objects-in-use-valid-requires c κs = search needs
-
-objects-unused-requires : tie.Need-objects-unused-requires
-objects-unused-requires c κs = search needs
+objects-valid-requires : tie.Need-objects-valid-requires
+objects-valid-requires c κs = search needs
 
 regrouped : (a b x y : Bool) → (a && b && (x && y)) ≡ (a && x && b && y)
 regrouped true true true y = refl
@@ -55,16 +48,13 @@ module _ (s : State) (k : length (s .controllers) ≡ chip .controllers) (o : le
 
   parts :
       (counts
-      && (all-in-use (chip .controllers) (s .«controller_count») (controller-valid-at ks)
-      && all-unused (chip .controllers) (s .«controller_count») (controller-idle-at ks))
-      && (all-in-use (chip .objects) (s .«object_count») (place-valid-at ks (s .«controller_count») os ms)
-      && all-unused (chip .objects) (s .«object_count») (place-unused-at os ms)))
+      && all-below (chip .controllers) (controller-place-valid-at ks (s .«controller_count»))
+      && all-below (chip .objects) (object-and-mailbox-valid-at ks (s .«controller_count») os ms (s .«object_count»)))
       ≡ valid chip can-format (view s)
   unfolding valid
   parts =
       rw (
-        by-use (chip .controllers) (s .«controller_count») (controller-valid-at ks) (controller-idle-at ks),
-        by-use-twice (chip .objects) (s .«object_count») (object-valid-at (s .«controller_count») os) (mailbox-valid-at ks os ms) (object-unused-at os) (mailbox-empty-at ms),
+        by-use (chip .objects) (s .«object_count») (object-valid-at (s .«controller_count») os) (mailbox-valid-at ks os ms) (object-unused-at os) (mailbox-empty-at ms),
         length-map (s .controllers) view-controller,
         k,
         length-map (s .objects) view-object,
@@ -76,19 +66,17 @@ module _ (s : State) (k : length (s .controllers) ≡ chip .controllers) (o : le
 
 returns : tie.Need-returns
 returns c =
-    let s = c .before .before .before .before .before .before .before .before .args .s in
+    let s = c .before .before .before .before .before .before .args .s in
     let k : length (s .controllers) ≡ chip .controllers = search length-of-map in
     let o : length (s .objects) ≡ chip .objects = search length-of-map in
     let m : length (s .mailboxes) ≡ chip .objects = search length-of-map in
-    rw (c .objects-unused .ensures, c .before .objects-in-use-valid .ensures, c .before .before .controllers-unused .ensures, c .before .before .before .controllers-in-use-valid .ensures, c .before .before .before .before .counts-suit .ensures) (parts s k o m)
+    rw (c .objects-valid .ensures, c .before .controllers-valid .ensures, c .before .before .counts-suit .ensures) (parts s k o m)
 
 pub valid-spec : {M : Type 1} → statement M
 valid-spec =
     tie.close
     (tie.spec
     counts-suit-requires
-    controllers-in-use-valid-requires
-    controllers-unused-requires
-    objects-in-use-valid-requires
-    objects-unused-requires
+    controllers-valid-requires
+    objects-valid-requires
     returns)
