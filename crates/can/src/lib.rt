@@ -46,31 +46,31 @@ pub use answers::verdict::return_code;
 pub use answers::verdict::verdict_reason;
 
 // Init: takes a configuration from bytes. Controllers are STOPPED afterwards, and the RAM is zero.
-pub use services::init::init;
+pub use initialisation::init::init;
 
 // DeInit: back to the state before Init, unless a controller is STARTED.
-pub use services::deinit::deinit;
+pub use initialisation::deinit::deinit;
 
 // SetControllerMode: asks for STARTED (1), STOPPED (2) or SLEEP (3); the next mode poll takes the request.
-pub use services::set_controller_mode::set_controller_mode;
+pub use controller_modes::set_controller_mode::set_controller_mode;
 
 // GetControllerMode: the mode that a controller is in now.
-pub use services::get_controller_mode::get_controller_mode;
+pub use controller_modes::get_controller_mode::get_controller_mode;
 
 // Write: lays a frame down in a sending object, whole, and keeps the object until the frame is confirmed or cancelled.
-pub use services::write::write;
+pub use transmission::write::write;
 
 // Write poll: confirms every frame that was sent, and frees its object.
-pub use polls::write::main_function_write;
+pub use write_poll::write::main_function_write;
 
 // Read poll: indicates every frame that was received, and empties its object.
-pub use polls::read::main_function_read;
+pub use read_poll::read::main_function_read;
 
 // Mode poll: carries out the waiting requests; a controller that leaves STARTED has its frames cancelled first.
-pub use polls::mode::main_function_mode;
+pub use mode_poll::mode::main_function_mode;
 
 // Bus-off poll: cancels the frames of every controller that went off the bus, and stops it.
-pub use polls::bus_off::main_function_bus_off;
+pub use bus_off_poll::bus_off::main_function_bus_off;
 
 // Sent: the simulated controller has sent the frame of an object.
 pub use events::tx_complete::tx_complete;
@@ -79,7 +79,7 @@ pub use events::tx_complete::tx_complete;
 pub use events::bus_off_detected::bus_off_detected;
 
 // Arrived: a frame came in. It is stored, unwanted or lost.
-pub use events::frame_arrived::frame_arrived;
+pub use arrivals::frame_arrived::frame_arrived;
 
 // Data of an object: the part of the RAM that holds its data.
 pub use layout::read::data_of;

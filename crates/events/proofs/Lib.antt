@@ -1,4 +1,2 @@
--- Laws that several proofs of this crate cite.
+-- Laws that the proofs of the events cite.
 pub mod Laws
-pub mod Picks
-pub mod Arrivals

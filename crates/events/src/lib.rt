@@ -1,7 +1,4 @@
-// The three events of the simulated controller: a frame was sent, a bus-off was detected, a frame arrived.
+// Two events of the simulated controller, a frame was sent and a bus-off was detected, and what a bus-off and an arrival ask first.
 pub mod bus_off_detected;
-pub mod choice;
-pub mod frame_arrived;
 pub mod on_bus;
-pub mod received;
 pub mod tx_complete;

@@ -1,2 +1,2 @@
--- Laws that several proofs of this crate cite.
+-- Laws that the proofs of the polls cite.
 pub mod Judging

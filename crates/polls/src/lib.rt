@@ -1,6 +1,2 @@
-// The four polls: what the driver reports of frames sent, frames received, modes and bus-off.
-pub mod bus_off;
-pub mod mode;
+// What the four polls share: how each begins and ends.
 pub mod poll;
-pub mod read;
-pub mod write;

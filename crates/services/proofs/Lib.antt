@@ -1,3 +1,2 @@
--- Laws of the services.
+-- Laws that the proofs of the services cite.
 pub mod Laws
-pub mod Writes

@@ -1,10 +1,3 @@
-// The five services: Init, DeInit, SetControllerMode, GetControllerMode and Write.
-pub mod deinit;
-pub mod get_controller_mode;
+// What the services share: the report of a refused one, and the checks on a controller's number.
 pub mod in_use;
-pub mod init;
-pub mod memory;
-pub mod number;
 pub mod report;
-pub mod set_controller_mode;
-pub mod write;

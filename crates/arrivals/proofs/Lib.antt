@@ -1,0 +1,2 @@
+-- Laws of arrivals.
+pub mod Arrivals

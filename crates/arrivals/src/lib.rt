@@ -1,0 +1,3 @@
+// The third event of the simulated controller: a frame arrived.
+pub mod frame_arrived;
+pub mod received;

@@ -1,0 +1,2 @@
+// Which object takes an arriving frame.
+pub mod choice;

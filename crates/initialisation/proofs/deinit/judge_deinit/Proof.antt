@@ -1,0 +1,16 @@
+-- `initialisation::deinit::judge_deinit` meets its contract: the test is whether the reason applies.
+-- Assumes nothing.
+use Rattle.rules.specs.Reason.{first-reason}
+use Rattle.initialisation.proofs.deinit.judge_deinit.Statement.{statement}
+use Rattle.initialisation.proofs.deinit.judge_deinit.Tie as tie
+
+returns : tie.Need-returns
+unfolding first-reason
+returns c = rw (c .if1 .taken)
+
+returns-2 : tie.Need-returns-2
+unfolding first-reason
+returns-2 c = rw (c .if1 .left)
+
+pub judge-deinit-spec : {M : Type 1} → statement M
+judge-deinit-spec = tie.close (tie.spec returns returns-2)

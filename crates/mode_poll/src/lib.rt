@@ -1,0 +1,2 @@
+// The mode poll: what the driver reports of modes.
+pub mod mode;

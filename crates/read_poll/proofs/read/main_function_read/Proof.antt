@@ -1,0 +1,51 @@
+-- The gate alone decides: it refuses with its reason, or what it made sure of is enough for the sweep.
+use borrow.Author.Needs.{needs}
+use Rattle.rules.specs.Polls.{main-function-read}
+use Rattle.polls.proofs.Judging.{gate-passed, poll-refused, poll-accepted}
+use Rattle.read_poll.proofs.read.main_function_read.Statement.{statement}
+use Rattle.read_poll.proofs.read.main_function_read.Tie as tie
+
+poll-gate-requires : tie.Need-poll-gate-requires
+poll-gate-requires c κs = search needs
+
+enum-told : tie.Need-enum-told
+enum-told c = search needs
+
+indicated-requires : tie.Need-indicated-requires
+indicated-requires c κs =
+    let judged = c .before .before .before in
+    let a = judged .before .before .before .args in
+    gate-passed (a .state) (a .ram .now) (a .sheet .now) (judged .poll-gate .ensures) (c .before .enum-told .given .1)
+
+enum-told-2 : tie.Need-enum-told-2
+enum-told-2 c = search needs
+
+same-length : tie.Need-same-length
+same-length c = search needs
+
+returns : tie.Need-returns
+unfolding main-function-read
+returns c =
+    let called = c .before .before in
+    let judged = called .before .before .before .before in
+    let a = judged .before .before .before .args in
+    poll-accepted (a .state) (a .ram .now) (a .sheet .now) (judged .poll-gate .ensures) _ _ (called .before .before .enum-told .given .1) (called .indicated .ensures)
+
+returns-2 : tie.Need-returns-2
+unfolding main-function-read
+returns-2 c =
+    let judged = c .before .before in
+    let a = judged .before .before .before .args in
+    poll-refused (a .state) (a .ram .now) (a .sheet .now) (judged .poll-gate .ensures) _ _ (c .enum-told2 .given .1)
+
+pub main-function-read-spec : {M : Type 1} → statement M
+main-function-read-spec =
+    tie.close
+    (tie.spec
+    poll-gate-requires
+    enum-told
+    indicated-requires
+    enum-told-2
+    same-length
+    returns
+    returns-2)

@@ -1,0 +1,2 @@
+// The read poll: what the driver reports of frames received.
+pub mod read;

@@ -1,0 +1,2 @@
+-- Laws of Write.
+pub mod Writes

@@ -1,0 +1,3 @@
+// The service Write.
+pub mod number;
+pub mod write;

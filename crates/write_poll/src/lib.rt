@@ -1,0 +1,2 @@
+// The write poll: what the driver reports of frames sent.
+pub mod write;
