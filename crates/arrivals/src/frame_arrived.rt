@@ -11,7 +11,6 @@ ghost use Rattle.places.specs.View.{view};
 ghost use Rattle.answers.specs.Answer.{verdict-reason};
 ghost use Rattle.answers.specs.Reply.{arrival-reason, arrival-answer};
 ghost use Rattle.answers.specs.Performed.{Performed};
-use crate::received::received;
 use answers::called::Arrived;
 use answers::gate::full_gate;
 use answers::rejection::Rejection;
@@ -24,6 +23,7 @@ use frame::length::is_wire_length;
 use places::at::controller_at;
 use places::state::State;
 use places::validity::valid;
+use reception::received::received;
 
 // Whether a frame can come from the bus: its identifier is good, and its length is a wire length of its format.
 pub fn judge_frame(identifier: u32, length: usize) -> Verdict

@@ -1,3 +1,2 @@
 // The third event of the simulated controller: a frame arrived.
 pub mod frame_arrived;
-pub mod received;

@@ -49,7 +49,7 @@ pub use answers::verdict::verdict_reason;
 pub use initialisation::init::init;
 
 // DeInit: back to the state before Init, unless a controller is STARTED.
-pub use initialisation::deinit::deinit;
+pub use deinitialisation::deinit::deinit;
 
 // SetControllerMode: asks for STARTED (1), STOPPED (2) or SLEEP (3); the next mode poll takes the request.
 pub use controller_modes::set_controller_mode::set_controller_mode;

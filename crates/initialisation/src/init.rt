@@ -16,7 +16,6 @@ ghost use Rattle.answers.specs.Answer.{verdict-reason};
 ghost use Rattle.answers.specs.Performed.{Performed};
 ghost use Rattle.config.specs.View.{view-setup};
 ghost use Rattle.initialisation.specs.Checks.{init-checks};
-use crate::memory::clear;
 use crate::number::INIT;
 use answers::called::Called;
 use answers::gate::full_gate;
@@ -35,6 +34,7 @@ use places::mailbox::empty_mailbox;
 use places::range::limited;
 use places::state::State;
 use places::validity::valid;
+use services::memory::clear;
 use services::report::report;
 
 // Reasons 6 and 9: the driver is not initialised yet, and the configuration is good.

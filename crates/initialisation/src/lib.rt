@@ -1,5 +1,3 @@
-// The services Init and DeInit.
-pub mod deinit;
+// The service Init.
 pub mod init;
-pub mod memory;
 pub mod number;

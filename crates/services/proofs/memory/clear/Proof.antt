@@ -1,11 +1,11 @@
--- `initialisation::memory::clear` meets its contract: zeros over the whole memory leave nothing of what was there.
+-- `services::memory::clear` meets its contract: zeros over the whole memory leave nothing of what was there.
 -- Assumes nothing.
 use mathlib.Core.Path.{_∙_}
 use lib.ListN.{length, replicate, length-replicate}
 use borrow.Author.Needs.{needs}
 use Rattle.services.proofs.Laws.{splice-whole}
-use Rattle.initialisation.proofs.memory.clear.Statement.{statement}
-use Rattle.initialisation.proofs.memory.clear.Tie as tie
+use Rattle.services.proofs.memory.clear.Statement.{statement}
+use Rattle.services.proofs.memory.clear.Tie as tie
 
 fill-requires : tie.Need-fill-requires
 fill-requires c κs = search needs

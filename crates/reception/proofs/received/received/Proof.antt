@@ -1,4 +1,4 @@
--- `arrivals::received::received` meets its contract: the checks passed, so that the choice is among the chip's objects, the memory is
+-- `reception::received::received` meets its contract: the checks passed, so that the choice is among the chip's objects, the memory is
 -- whole and the sheet has room; the pick decides which of the ends it is.
 use borrow.Author.Needs.{needs}
 use Prim.Native.Nat.{ℕ}
@@ -12,9 +12,9 @@ use Rattle.rules.specs.Chip.{chip}
 use Rattle.rules.specs.Events.{best-object}
 use Rattle.places.specs.View.{view}
 use Rattle.choice.specs.Choice.{view-pick}
-use Rattle.arrivals.proofs.Arrivals.{ArrivalPassed, arrival-passed, chosen-in-use}
-use Rattle.arrivals.proofs.received.received.Statement.{statement}
-use Rattle.arrivals.proofs.received.received.Tie as tie
+use Rattle.reception.proofs.Arrivals.{ArrivalPassed, arrival-passed, chosen-in-use}
+use Rattle.reception.proofs.received.received.Statement.{statement}
+use Rattle.reception.proofs.received.received.Tie as tie
 
 abbrev frame : tie.Start → Frame
 frame c = record { identifier = c .args .identifier; sdu = c .args .sdu .now }

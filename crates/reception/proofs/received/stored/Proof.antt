@@ -1,4 +1,4 @@
--- `arrivals::received::stored` meets its contract: the object is one of the chip's and the frame fits it, so that it is laid down whole.
+-- `reception::received::stored` meets its contract: the object is one of the chip's and the frame fits it, so that it is laid down whole.
 use borrow.Author.Needs.{needs}
 use mathlib.Core.Path.{refl, sym, ap}
 use lib.ListN.{length}
@@ -8,8 +8,8 @@ use Rattle.rules.specs.Can.{can-format}
 use Rattle.layout.proofs.Placed.{object-room, laid-whole}
 use Rattle.places.proofs.Laws.{object-seen}
 use Rattle.events.proofs.Laws.{accepted-quietly}
-use Rattle.arrivals.proofs.received.stored.Statement.{statement}
-use Rattle.arrivals.proofs.received.stored.Tie as tie
+use Rattle.reception.proofs.received.stored.Statement.{statement}
+use Rattle.reception.proofs.received.stored.Tie as tie
 
 mul-o : tie.Need-mul-o
 mul-o c = search needs

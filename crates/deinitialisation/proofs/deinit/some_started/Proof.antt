@@ -1,4 +1,4 @@
--- `initialisation::deinit::some_started` meets its contract. The loop's invariant: `none` says that no controller passed is STARTED. Past
+-- `deinitialisation::deinit::some_started` meets its contract. The loop's invariant: `none` says that no controller passed is STARTED. Past
 -- the last place there is no controller that could be.
 -- Assumes nothing.
 use Prim.Native.Nat.{ℕ, _≤_, _-_}
@@ -13,8 +13,8 @@ use Rattle.rules.specs.State.{Controller, idle-controller, controller-at, is-st
 use Rattle.rules.specs.Chip.{chip}
 use Rattle.places.specs.View.{view-controller}
 use Rattle.places.proofs.Laws.{all-below-more, all-below-from}
-use Rattle.initialisation.proofs.deinit.some_started.Statement.{statement}
-use Rattle.initialisation.proofs.deinit.some_started.Tie as tie
+use Rattle.deinitialisation.proofs.deinit.some_started.Statement.{statement}
+use Rattle.deinitialisation.proofs.deinit.some_started.Tie as tie
 
 abbrev not-started : List Controller → ℕ → Bool
 not-started ks c = not (is-started (controller-at ks c))

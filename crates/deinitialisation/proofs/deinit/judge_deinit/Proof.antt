@@ -1,8 +1,8 @@
--- `initialisation::deinit::judge_deinit` meets its contract: the test is whether the reason applies.
+-- `deinitialisation::deinit::judge_deinit` meets its contract: the test is whether the reason applies.
 -- Assumes nothing.
 use Rattle.rules.specs.Reason.{first-reason}
-use Rattle.initialisation.proofs.deinit.judge_deinit.Statement.{statement}
-use Rattle.initialisation.proofs.deinit.judge_deinit.Tie as tie
+use Rattle.deinitialisation.proofs.deinit.judge_deinit.Statement.{statement}
+use Rattle.deinitialisation.proofs.deinit.judge_deinit.Tie as tie
 
 returns : tie.Need-returns
 unfolding first-reason

@@ -10,8 +10,7 @@ ghost use Rattle.rules.specs.Chip.{chip};
 ghost use Rattle.places.specs.View.{view, view-controller};
 ghost use Rattle.answers.specs.Answer.{verdict-reason};
 ghost use Rattle.answers.specs.Performed.{Performed};
-ghost use Rattle.initialisation.specs.Checks.{any-started, deinit-checks};
-use crate::memory::clear;
+ghost use Rattle.deinitialisation.specs.Checks.{any-started, deinit-checks};
 use crate::number::DEINIT;
 use answers::called::Called;
 use answers::gate::full_gate;
@@ -25,6 +24,7 @@ use places::range::limited;
 use places::state::State;
 use places::state::initial_state;
 use places::validity::valid;
+use services::memory::clear;
 use services::report::report;
 
 // Whether one of the first count controllers is STARTED.

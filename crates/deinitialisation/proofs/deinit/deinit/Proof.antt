@@ -1,4 +1,4 @@
--- `initialisation::deinit::deinit` meets its contract: the gate's verdict and the service's own are the first reason of all checks, which
+-- `deinitialisation::deinit::deinit` meets its contract: the gate's verdict and the service's own are the first reason of all checks, which
 -- picks the outcome; an accepted call has memory of its size, which is cleared whole.
 -- Assumes nothing.
 use Prim.Native.Nat.{ℕ}
@@ -15,10 +15,10 @@ use Rattle.rules.specs.Can.{can-format}
 use Rattle.rules.specs.Chip.{chip}
 use Rattle.places.specs.View.{view}
 use Rattle.answers.specs.Answer.{verdict-reason}
-use Rattle.initialisation.specs.Checks as element
+use Rattle.deinitialisation.specs.Checks as element
 use Rattle.services.proofs.Laws.{Service, gated, carried, has-room, passed, whole-ram, performed, refused}
-use Rattle.initialisation.proofs.deinit.deinit.Statement.{statement}
-use Rattle.initialisation.proofs.deinit.deinit.Tie as tie
+use Rattle.deinitialisation.proofs.deinit.deinit.Statement.{statement}
+use Rattle.deinitialisation.proofs.deinit.deinit.Tie as tie
 
 some-started-requires : tie.Need-some-started-requires
 some-started-requires c κs = search needs

@@ -1,4 +1,4 @@
--- `arrivals::received::not_stored` meets its contract: by the case of the pick; a sheet that is long enough takes the one notification.
+-- `reception::received::not_stored` meets its contract: by the case of the pick; a sheet that is long enough takes the one notification.
 use borrow.Author.Needs.{needs}
 use native.Mathlib.Omega.{arith}
 use mathlib.Core.Path.{refl}
@@ -8,8 +8,8 @@ use Rattle.rules.specs.Notification.{data-lost}
 use Rattle.layout.proofs.Placed.{put-first}
 use Rattle.places.specs.View.{view}
 use Rattle.events.proofs.Laws.{accepted-quietly}
-use Rattle.arrivals.proofs.received.not_stored.Statement.{statement}
-use Rattle.arrivals.proofs.received.not_stored.Tie as tie
+use Rattle.reception.proofs.received.not_stored.Statement.{statement}
+use Rattle.reception.proofs.received.not_stored.Tie as tie
 
 enum-told : tie.Need-enum-told
 enum-told c = search needs

@@ -1,2 +1,0 @@
--- Laws of arrivals.
-pub mod Arrivals

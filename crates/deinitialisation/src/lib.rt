@@ -1,0 +1,3 @@
+// The service DeInit.
+pub mod deinit;
+pub mod number;

@@ -1,0 +1,2 @@
+-- Laws of an arrival that passes its checks.
+pub mod Arrivals
