@@ -1,9 +1,10 @@
-// Commands in words.
+// Calls in words.
 use crate::frame::identifier;
 use crate::frame::mode;
 use crate::print::count_of;
 use crate::print::numbered;
-use script::command::Command;
+use crate::request::Function;
+use crate::request::Request;
 use text::put::put;
 
 fn set(out: &mut [u8], at: usize, controller: u32, asked: u32) -> usize {
@@ -20,53 +21,50 @@ fn frame(out: &mut [u8], at: usize, word: u32, length: u32) -> usize {
     count_of(out, end, length as u64, b" byte")
 }
 
-fn write(
-    out: &mut [u8],
-    at: usize,
-    object: u32,
-    handle: u32,
-    identifier: u32,
-    length: u32,
-) -> usize {
-    let mut end = numbered(out, at, b"write object ", object as u64);
-    end = numbered(out, end, b", handle ", handle as u64);
-    frame(out, end, identifier, length)
+fn write(out: &mut [u8], at: usize, request: Request) -> usize {
+    let mut end = numbered(out, at, b"write object ", request.object as u64);
+    end = numbered(out, end, b", handle ", request.number as u64);
+    frame(out, end, request.identifier, request.length)
 }
 
-fn arrived(out: &mut [u8], at: usize, controller: u32, identifier: u32, length: u32) -> usize {
-    let end = numbered(out, at, b"arrived on controller ", controller as u64);
-    frame(out, end, identifier, length)
+fn arrived(out: &mut [u8], at: usize, request: Request) -> usize {
+    let end = numbered(
+        out,
+        at,
+        b"arrived on controller ",
+        request.controller as u64,
+    );
+    frame(out, end, request.identifier, request.length)
+}
+
+fn init(out: &mut [u8], at: usize, length: u32) -> usize {
+    let end = put(out, at, b"init with ");
+    count_of(out, end, length as u64, b" byte")
+}
+
+// A service or an event.
+fn other(out: &mut [u8], at: usize, request: Request) -> usize {
+    let function = request.function;
+    match function {
+        Function::Init => init(out, at, request.length),
+        Function::DeInit => put(out, at, b"deinit"),
+        Function::Set => set(out, at, request.controller, request.number),
+        Function::Get => numbered(out, at, b"get controller ", request.controller as u64),
+        Function::Write => write(out, at, request),
+        Function::Sent => numbered(out, at, b"sent from object ", request.object as u64),
+        Function::BusOff => numbered(out, at, b"busoff of controller ", request.controller as u64),
+        _ => arrived(out, at, request),
+    }
 }
 
 // A call.
-pub fn call(out: &mut [u8], at: usize, command: Command) -> usize {
-    match command {
-        Command::Init { length } => {
-            let end = put(out, at, b"init with ");
-            count_of(out, end, length as u64, b" byte")
-        }
-        Command::DeInit => put(out, at, b"deinit"),
-        Command::Set { controller, mode } => set(out, at, controller, mode),
-        Command::Get { controller } => numbered(out, at, b"get controller ", controller as u64),
-        Command::Write {
-            object,
-            handle,
-            identifier,
-            length,
-        } => write(out, at, object, handle, identifier, length),
-        Command::PollWrite => put(out, at, b"poll write"),
-        Command::PollRead => put(out, at, b"poll read"),
-        Command::PollMode => put(out, at, b"poll mode"),
-        Command::PollBusOff => put(out, at, b"poll busoff"),
-        Command::Sent { object } => numbered(out, at, b"sent from object ", object as u64),
-        Command::BusOff { controller } => {
-            numbered(out, at, b"busoff of controller ", controller as u64)
-        }
-        Command::Arrived {
-            controller,
-            identifier,
-            length,
-        } => arrived(out, at, controller, identifier, length),
-        _ => at,
+pub fn call(out: &mut [u8], at: usize, request: Request) -> usize {
+    let function = request.function;
+    match function {
+        Function::PollWrite => put(out, at, b"poll write"),
+        Function::PollRead => put(out, at, b"poll read"),
+        Function::PollMode => put(out, at, b"poll mode"),
+        Function::PollBusOff => put(out, at, b"poll busoff"),
+        _ => other(out, at, request),
     }
 }

@@ -1,11 +1,12 @@
-// Commands that are calls of the driver.
+// Calls of the driver.
+use crate::request::Function;
+use crate::request::Request;
 use can::ArrivalReply;
 use can::Called;
 use can::ModeReply;
 use can::State;
 use can::Verdict;
 use can::WriteReply;
-use script::command::Command;
 
 // What a call answers beyond its verdict.
 pub enum Answer {
@@ -64,17 +65,17 @@ fn write_answer(reply: WriteReply) -> Answer {
     }
 }
 
-fn write(
-    state: State,
-    ram: &mut [u8],
-    sheet: &mut [u32],
-    object: u32,
-    handle: u32,
-    identifier: u32,
-    data: &[u8],
-) -> Played {
-    let handle = (handle % 65536) as u16;
-    let written = can::write(state, ram, sheet, object, handle, identifier, data);
+fn write(state: State, ram: &mut [u8], sheet: &mut [u32], request: Request, data: &[u8]) -> Played {
+    let handle = (request.number % 65536) as u16;
+    let written = can::write(
+        state,
+        ram,
+        sheet,
+        request.object,
+        handle,
+        request.identifier,
+        data,
+    );
     let next = written.state;
     let reply = written.reply;
     let verdict = can::write_verdict(reply);
@@ -100,11 +101,17 @@ fn arrived(
     state: State,
     ram: &mut [u8],
     sheet: &mut [u32],
-    controller: u32,
-    identifier: u32,
+    request: Request,
     data: &[u8],
 ) -> Played {
-    let arrived = can::frame_arrived(state, ram, sheet, controller, identifier, data);
+    let arrived = can::frame_arrived(
+        state,
+        ram,
+        sheet,
+        request.controller,
+        request.identifier,
+        data,
+    );
     let next = arrived.state;
     let reply = arrived.reply;
     let verdict = can::arrival_verdict(reply);
@@ -117,101 +124,46 @@ fn arrived(
     }
 }
 
-// No call: nothing changes.
-fn none(state: State) -> Played {
-    Played {
-        state: state,
-        verdict: Verdict::Accepted,
-        answer: Answer::Nothing,
-        notifications: 0,
-    }
-}
-
 // The services.
 fn service(
     state: State,
     ram: &mut [u8],
     sheet: &mut [u32],
     data: &[u8],
-    command: Command,
+    request: Request,
 ) -> Played {
-    match command {
-        Command::Init { length: _ } => with_verdict(can::init(state, ram, sheet, data)),
-        Command::DeInit => with_verdict(can::deinit(state, ram, sheet)),
-        Command::Set { controller, mode } => {
-            with_verdict(can::set_controller_mode(state, sheet, controller, mode))
-        }
-        Command::Get { controller } => get(state, sheet, controller),
-        Command::Write {
-            object,
-            handle,
-            identifier,
-            length: _,
-        } => write(state, ram, sheet, object, handle, identifier, data),
-        _ => none(state),
+    let function = request.function;
+    match function {
+        Function::Init => with_verdict(can::init(state, ram, sheet, data)),
+        Function::DeInit => with_verdict(can::deinit(state, ram, sheet)),
+        Function::Set => with_verdict(can::set_controller_mode(
+            state,
+            sheet,
+            request.controller,
+            request.number,
+        )),
+        Function::Get => get(state, sheet, request.controller),
+        _ => write(state, ram, sheet, request, data),
     }
 }
 
 // The polls.
-fn poll(state: State, ram: &[u8], sheet: &mut [u32], command: Command) -> Played {
-    match command {
-        Command::PollWrite => with_verdict(can::main_function_write(state, ram, sheet)),
-        Command::PollRead => with_verdict(can::main_function_read(state, ram, sheet)),
-        Command::PollMode => with_verdict(can::main_function_mode(state, ram, sheet)),
-        Command::PollBusOff => with_verdict(can::main_function_bus_off(state, ram, sheet)),
-        _ => none(state),
+fn poll(state: State, ram: &[u8], sheet: &mut [u32], function: Function) -> Played {
+    match function {
+        Function::PollWrite => with_verdict(can::main_function_write(state, ram, sheet)),
+        Function::PollRead => with_verdict(can::main_function_read(state, ram, sheet)),
+        Function::PollMode => with_verdict(can::main_function_mode(state, ram, sheet)),
+        _ => with_verdict(can::main_function_bus_off(state, ram, sheet)),
     }
 }
 
 // The events.
-fn event(state: State, ram: &mut [u8], sheet: &mut [u32], data: &[u8], command: Command) -> Played {
-    match command {
-        Command::Sent { object } => with_verdict(can::tx_complete(state, object)),
-        Command::BusOff { controller } => with_verdict(can::bus_off_detected(state, controller)),
-        Command::Arrived {
-            controller,
-            identifier,
-            length: _,
-        } => arrived(state, ram, sheet, controller, identifier, data),
-        _ => none(state),
-    }
-}
-
-// Which of the three kinds of call a command is.
-pub enum Kind {
-    Service,
-    Poll,
-    Event,
-    NoCall,
-}
-
-pub fn kind_of(command: Command) -> Kind {
-    match command {
-        Command::Init { length: _ } => Kind::Service,
-        Command::DeInit => Kind::Service,
-        Command::Set {
-            controller: _,
-            mode: _,
-        } => Kind::Service,
-        Command::Get { controller: _ } => Kind::Service,
-        Command::Write {
-            object: _,
-            handle: _,
-            identifier: _,
-            length: _,
-        } => Kind::Service,
-        Command::PollWrite => Kind::Poll,
-        Command::PollRead => Kind::Poll,
-        Command::PollMode => Kind::Poll,
-        Command::PollBusOff => Kind::Poll,
-        Command::Sent { object: _ } => Kind::Event,
-        Command::BusOff { controller: _ } => Kind::Event,
-        Command::Arrived {
-            controller: _,
-            identifier: _,
-            length: _,
-        } => Kind::Event,
-        _ => Kind::NoCall,
+fn event(state: State, ram: &mut [u8], sheet: &mut [u32], data: &[u8], request: Request) -> Played {
+    let function = request.function;
+    match function {
+        Function::Sent => with_verdict(can::tx_complete(state, request.object)),
+        Function::BusOff => with_verdict(can::bus_off_detected(state, request.controller)),
+        _ => arrived(state, ram, sheet, request, data),
     }
 }
 
@@ -221,32 +173,16 @@ pub fn perform(
     ram: &mut [u8],
     sheet: &mut [u32],
     data: &[u8],
-    command: Command,
+    request: Request,
 ) -> Played {
-    let kind = kind_of(command);
-    match kind {
-        Kind::Service => service(state, ram, sheet, data, command),
-        Kind::Poll => poll(state, ram, sheet, command),
-        Kind::Event => event(state, ram, sheet, data, command),
-        Kind::NoCall => none(state),
-    }
-}
-
-// How many bytes a command brings.
-pub fn length(command: Command) -> usize {
-    match command {
-        Command::Init { length } => length as usize,
-        Command::Write {
-            object: _,
-            handle: _,
-            identifier: _,
-            length,
-        } => length as usize,
-        Command::Arrived {
-            controller: _,
-            identifier: _,
-            length,
-        } => length as usize,
-        _ => 0,
+    let function = request.function;
+    match function {
+        Function::Sent | Function::BusOff | Function::Arrived => {
+            event(state, ram, sheet, data, request)
+        }
+        Function::PollWrite | Function::PollRead | Function::PollMode | Function::PollBusOff => {
+            poll(state, ram, sheet, function)
+        }
+        _ => service(state, ram, sheet, data, request),
     }
 }

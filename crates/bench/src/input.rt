@@ -1,21 +1,21 @@
-// The whole of a script, read in pieces and played line by line.
+// The whole of a script, played line by line.
 ghost use mathlib.Core.Path.{_≡_};
-ghost use Prim.Native.Nat.{_≤_, _<_};
 ghost use lib.ListN.{length};
 use crate::line;
+use crate::night;
 use crate::night::Night;
-use crate::night::begun;
-use crate::night::of_bytes;
 use crate::summary;
-use bytes::scan::find;
-use libc::STDIN_FILENO;
 use libc::STDOUT_FILENO;
+use lines::reader;
+use lines::reader::Reader;
+use lines::reader::advanced;
+use lines::reader::of_bytes;
 use script::command::LARGEST_MEMORY;
 use script::command::LARGEST_SHEET;
 use words::bytes::LONGEST_LINE;
 use words::bytes::MOST_BYTES;
 
-// A line and the CR before its LF.
+// A line, and the CR before its LF or the byte that makes a line too long.
 const LINE_ROOM: usize = LONGEST_LINE + 1;
 
 // Room for the list of frames that a bus-off took.
@@ -45,211 +45,55 @@ fn written_if_full(night: Night, out: &[u8]) -> Night {
     written(night, out)
 }
 
-// The night and how many bytes of its next line are read. The count goes one above the room, to tell a line that is too long.
-struct Reader {
-    night: Night,
-    count: usize,
-}
-
-// Puts more bytes of a line behind those read so far, as far as there is room.
-fn kept(line: &mut [u8], count: usize, more: &[u8]) -> usize {
-    let mut end = count;
-    let mut i = 0;
-    while i < more.len() {
-        if line.len() <= end {
-            return std::num::wrapping_add_usize(line.len(), 1);
-        }
-        line[end] = more[i];
-        end += 1;
-        i += 1;
-    }
-    end
-}
-
-// The length of a line that an LF ends: a CR before it belongs to the line end.
-fn without_cr(line: &[u8], count: usize) -> usize {
-    if count == 0 {
-        return 0;
-    }
-    if line.len() < count {
-        return line.len();
-    }
-    if line[count - 1] == b'\r' {
-        return count - 1;
-    }
-    count
-}
-
-// Plays the line that the first count bytes are.
+// Plays the line that is read, once it is whole.
 fn played(
     night: Night,
+    reader: Reader,
     line: &[u8],
-    count: usize,
     memory: &mut [u8],
     sheet: &mut [u32],
     bytes: &mut [u8; MOST_BYTES],
     out: &mut [u8],
     taken: &mut [u8],
 ) -> Night {
-    let end = of_bytes(count, line);
+    if !reader.whole {
+        return night;
+    }
+    let end = of_bytes(reader.count, line);
     let next = line::play(night, &line[..end], memory, sheet, bytes, out, taken);
     written_if_full(next, out)
 }
 
-// Takes in a part of a line, and plays the line if the part ends it.
-fn part(
+// A night, and how far its script is read.
+struct Playing {
+    night: Night,
     reader: Reader,
-    more: &[u8],
-    ends: bool,
+}
+
+// One step on in the script, and in the night if that makes a line whole.
+fn step(
+    playing: Playing,
+    input: &mut [u8],
     line: &mut [u8],
     memory: &mut [u8],
     sheet: &mut [u32],
     bytes: &mut [u8; MOST_BYTES],
     out: &mut [u8],
     taken: &mut [u8],
-) -> Reader {
-    let night = reader.night;
-    let count = kept(line, reader.count, more);
-    if !ends {
-        return Reader {
-            night: night,
-            count: count,
-        };
-    }
-    let length = without_cr(line, count);
-    let next = played(night, line, length, memory, sheet, bytes, out, taken);
-    Reader {
+) -> Playing {
+    let night = playing.night;
+    let before = playing.reader;
+    let reader = advanced(before, input, line);
+    let next = played(night, reader, line, memory, sheet, bytes, out, taken);
+    Playing {
         night: next,
-        count: 0,
-    }
-}
-
-// Where a line, or the part of it that is read, ends, and where the next one begins: behind the LF if there is one.
-struct Stretch {
-    end: usize,
-    next: usize,
-}
-
-fn line_end(input: &[u8], at: usize) -> Stretch
-    requires { ⌜ at < length (now input) ⌝ }
-    ensures { λ r. ⌜ (at ≤ r .end) × (r .end ≤ r .next) × (at < r .next) × (r .next ≤ length (now (input .entry))) ⌝ }
-{
-    let end = find(input, at, input.len(), b'\n');
-    if end < input.len() {
-        return Stretch {
-            end: end,
-            next: end + 1,
-        };
-    }
-    Stretch {
-        end: end,
-        next: end,
-    }
-}
-
-// Takes in one piece of the input.
-fn piece(
-    reader: Reader,
-    input: &[u8],
-    line: &mut [u8],
-    memory: &mut [u8],
-    sheet: &mut [u32],
-    bytes: &mut [u8; MOST_BYTES],
-    out: &mut [u8],
-    taken: &mut [u8],
-) -> Reader {
-    let mut reader = reader;
-    let mut at = 0;
-    while at < input.len() {
-        let stretch = line_end(input, at);
-        let end = stretch.end;
-        let next = stretch.next;
-        reader = part(
-            reader,
-            &input[at..end],
-            end < next,
-            line,
-            memory,
-            sheet,
-            bytes,
-            out,
-            taken,
-        );
-        at = next;
-    }
-    reader
-}
-
-// What the next piece of the input left, and whether the input has ended.
-struct Taken {
-    reader: Reader,
-    ended: bool,
-}
-
-// The input has ended. A last line may end without an LF.
-fn last(
-    reader: Reader,
-    line: &[u8],
-    memory: &mut [u8],
-    sheet: &mut [u32],
-    bytes: &mut [u8; MOST_BYTES],
-    out: &mut [u8],
-    taken: &mut [u8],
-) -> Taken {
-    let night = reader.night;
-    let count = reader.count;
-    if count == 0 {
-        return Taken {
-            reader: reader,
-            ended: true,
-        };
-    }
-    let next = played(night, line, count, memory, sheet, bytes, out, taken);
-    let reader = Reader {
-        night: next,
-        count: 0,
-    };
-    Taken {
         reader: reader,
-        ended: true,
     }
 }
 
-// Reads the next piece of the input and takes it in.
-fn next_piece(
-    reader: Reader,
-    input: &mut [u8],
-    line: &mut [u8],
-    memory: &mut [u8],
-    sheet: &mut [u32],
-    bytes: &mut [u8; MOST_BYTES],
-    out: &mut [u8],
-    taken: &mut [u8],
-) -> Taken {
-    let got = libc::read(STDIN_FILENO, input);
-    let count = io::count(got, input);
-    if count == 0 {
-        return last(reader, line, memory, sheet, bytes, out, taken);
-    }
-    let next = piece(
-        reader,
-        &input[..count],
-        line,
-        memory,
-        sheet,
-        bytes,
-        out,
-        taken,
-    );
-    Taken {
-        reader: next,
-        ended: false,
-    }
-}
-
-// Takes in the input to its end. Nothing says that an input ends, so the pieces are counted down, from more than there can be.
+// Plays the script to its end. Nothing says that an input ends, so the steps are counted down, from more than there can be.
 fn all(
-    reader: Reader,
+    start: Playing,
     input: &mut [u8],
     line: &mut [u8],
     memory: &mut [u8],
@@ -257,15 +101,25 @@ fn all(
     bytes: &mut [u8; MOST_BYTES],
     out: &mut [u8],
     taken: &mut [u8],
-) -> Reader {
-    let mut reader = reader;
-    let mut turns: u64 = 0xFFFFFFFFFFFFFFFF;
-    while 0 < turns {
-        let after = next_piece(reader, input, line, memory, sheet, bytes, out, taken);
-        reader = after.reader;
-        turns = if after.ended { 0 } else { turns - 1 };
+) -> Playing {
+    let mut playing = start;
+    let mut steps: u64 = 0xFFFFFFFFFFFFFFFF;
+    while 0 < steps {
+        playing = step(playing, input, line, memory, sheet, bytes, out, taken);
+        let reader = playing.reader;
+        steps = if reader.ended { 0 } else { steps - 1 };
     }
-    reader
+    playing
+}
+
+// A fresh bench, with nothing of the script read yet.
+fn start(plain: bool) -> Playing {
+    let night = night::begun(plain);
+    let reader = reader::begun();
+    Playing {
+        night: night,
+        reader: reader,
+    }
 }
 
 // Writes the totals of a night behind what stands in the output buffer.
@@ -288,26 +142,6 @@ fn listed(night: Night, out: &mut [u8], taken: &[u8]) {
     written(last, out);
 }
 
-// Plays the night on standard input, with the buffers lent.
-fn night(
-    plain: bool,
-    input: &mut [u8],
-    line: &mut [u8],
-    memory: &mut [u8],
-    sheet: &mut [u32],
-    bytes: &mut [u8; MOST_BYTES],
-    out: &mut [u8],
-    taken: &mut [u8],
-) -> Night {
-    let night = begun(plain);
-    let reader = Reader {
-        night: night,
-        count: 0,
-    };
-    let end = all(reader, input, line, memory, sheet, bytes, out, taken);
-    end.night
-}
-
 // The end of a night: in plain words its totals, and the frames that a bus-off took.
 fn finished(night: Night, out: &mut [u8], taken: &[u8]) {
     if night.plain {
@@ -327,8 +161,8 @@ pub fn play(plain: bool) {
     let mut memory = [0u8; LARGEST_MEMORY];
     let mut sheet = [0u32; LARGEST_SHEET];
     let mut bytes = [0u8; MOST_BYTES];
-    let end = night(
-        plain,
+    let end = all(
+        start(plain),
         &mut input,
         &mut line,
         &mut memory,
@@ -337,5 +171,5 @@ pub fn play(plain: bool) {
         &mut out,
         &mut taken,
     );
-    finished(end, &mut out, &taken);
+    finished(end.night, &mut out, &taken);
 }

@@ -1,25 +1,26 @@
 // One line of a night.
 use crate::call::Answer;
-use crate::call::Kind;
 use crate::call::Played;
-use crate::call::kind_of;
-use crate::call::length;
 use crate::call::perform;
 use crate::night::Night;
 use crate::night::Tally;
 use crate::night::more;
-use crate::night::of_bytes;
 use crate::night::of_words;
 use crate::night::with_origin;
 use crate::object::bytes;
 use crate::plain;
 use crate::print::numbered;
+use crate::request::Request;
+use crate::request::is_bus_off_poll;
+use crate::request::is_call;
+use crate::request::request_of;
 use crate::tell;
 use crate::tell::Poll;
 use crate::tell::Told;
 use crate::terse;
 use crate::trouble::message;
 use can::OBJECTS;
+use lines::reader::of_bytes;
 use script::command::Command;
 use script::name::name_of;
 use text::put::put;
@@ -51,24 +52,17 @@ fn tally_after(tally: Tally, answer: Answer) -> Tally {
     next
 }
 
-fn is_bus_off_poll(command: Command) -> bool {
-    match command {
-        Command::PollBusOff => true,
-        _ => false,
-    }
-}
-
 // The call and its notifications in words.
 fn in_words(
     night: Night,
-    command: Command,
+    request: Request,
     played: Played,
     ram: &[u8],
     sheet: &[u32],
     out: &mut [u8],
     taken: &mut [u8],
 ) -> Told {
-    let at = plain::call(out, night.at, night, command, played);
+    let at = plain::call(out, night.at, night, request, played);
     let answer = played.answer;
     let before = night.tally;
     let tally = tally_after(before, answer);
@@ -80,7 +74,7 @@ fn in_words(
     };
     let poll = Poll {
         line: night.line,
-        by_bus_off: is_bus_off_poll(command),
+        by_bus_off: is_bus_off_poll(request),
     };
     tell::all(
         start,
@@ -97,11 +91,12 @@ fn in_words(
 // The call as one line of words.
 fn in_numbers(
     night: Night,
-    command: Command,
+    request: Request,
     played: Played,
     sheet: &[u32],
     out: &mut [u8],
 ) -> Told {
+    let function = request.function;
     let verdict = played.verdict;
     let answer = played.answer;
     let tally = night.tally;
@@ -109,7 +104,7 @@ fn in_numbers(
         out,
         night.at,
         night.line,
-        command,
+        function,
         verdict,
         answer,
         sheet,
@@ -125,7 +120,7 @@ fn in_numbers(
 // A call of the driver, with as much of the memory and the sheet as is lent, and the bytes that its line brings.
 fn performed(
     night: Night,
-    command: Command,
+    request: Request,
     bytes: &[u8],
     memory: &mut [u8],
     sheet: &mut [u32],
@@ -133,20 +128,20 @@ fn performed(
     let state = night.state;
     let lent_bytes = of_bytes(night.memory, memory);
     let lent_words = of_words(night.sheet, sheet);
-    let count = of_bytes(length(command), bytes);
+    let count = of_bytes(request.length as usize, bytes);
     perform(
         state,
         &mut memory[..lent_bytes],
         &mut sheet[..lent_words],
         &bytes[..count],
-        command,
+        request,
     )
 }
 
 // What came of a call, in the night's style.
 fn told(
     night: Night,
-    command: Command,
+    request: Request,
     played: Played,
     memory: &[u8],
     sheet: &[u32],
@@ -155,9 +150,9 @@ fn told(
 ) -> Told {
     if night.plain {
         let lent = of_bytes(night.memory, memory);
-        return in_words(night, command, played, &memory[..lent], sheet, out, taken);
+        return in_words(night, request, played, &memory[..lent], sheet, out, taken);
     }
-    in_numbers(night, command, played, sheet, out)
+    in_numbers(night, request, played, sheet, out)
 }
 
 // The night after a call.
@@ -183,29 +178,29 @@ fn after(night: Night, played: Played, told: Told) -> Night {
 // Tells what came of a call.
 fn answered(
     night: Night,
-    command: Command,
+    request: Request,
     played: Played,
     memory: &[u8],
     sheet: &[u32],
     out: &mut [u8],
     taken: &mut [u8],
 ) -> Night {
-    let told = told(night, command, played, memory, sheet, out, taken);
+    let told = told(night, request, played, memory, sheet, out, taken);
     after(night, played, told)
 }
 
 // Plays a call and tells what came of it.
 fn call(
     night: Night,
-    command: Command,
+    request: Request,
     bytes: &[u8],
     memory: &mut [u8],
     sheet: &mut [u32],
     out: &mut [u8],
     taken: &mut [u8],
 ) -> Night {
-    let played = performed(night, command, bytes, memory, sheet);
-    answered(night, command, played, memory, sheet, out, taken)
+    let played = performed(night, request, bytes, memory, sheet);
+    answered(night, request, played, memory, sheet, out, taken)
 }
 
 fn data(night: Night, object: u32, memory: &[u8], out: &mut [u8]) -> usize {
@@ -297,9 +292,9 @@ pub fn play(
     let command = script::command::read(line, bytes);
     let mut next = night;
     next.line = more(night.line);
-    let kind = kind_of(command);
-    match kind {
-        Kind::NoCall => other(next, command, line, memory, out),
-        _ => { call(next, command, bytes, memory, sheet, out, taken) }
+    let request = request_of(command);
+    if is_call(request) {
+        return call(next, request, bytes, memory, sheet, out, taken);
     }
+    other(next, command, line, memory, out)
 }

@@ -13,6 +13,7 @@ mod object;
 mod plain;
 mod print;
 mod refused;
+mod request;
 mod state;
 mod style;
 mod summary;

@@ -66,13 +66,6 @@ pub fn more(n: u64) -> u64 {
     std::num::wrapping_add_u64(n, 1)
 }
 
-// So many of the bytes, or all if there are fewer.
-pub fn of_bytes(n: usize, bytes: &[u8]) -> usize
-    ensures { λ r. ⌜ Counts r (now (bytes .entry)) ⌝ }
-{
-    if n < bytes.len() { n } else { bytes.len() }
-}
-
 // So many of the words, or all if there are fewer.
 pub fn of_words(n: usize, words: &[u32]) -> usize
     ensures { λ r. ⌜ Counts r (now (words .entry)) ⌝ }

@@ -9,12 +9,12 @@ use crate::print::numbered;
 use crate::print::right;
 use crate::print::to_column;
 use crate::refused;
+use crate::request::Request;
 use crate::state;
 use crate::trouble::expected;
 use crate::trouble::message;
 use can::State;
 use can::Verdict;
-use script::command::Command;
 use script::name::Name;
 use text::put::put;
 use words::reading::Trouble;
@@ -29,20 +29,21 @@ fn begun(out: &mut [u8], at: usize, line: u64) -> usize {
 }
 
 // A call with its answer; the night is as it was before the call.
-pub fn call(out: &mut [u8], at: usize, night: Night, command: Command, played: Played) -> usize {
+pub fn call(out: &mut [u8], at: usize, night: Night, request: Request, played: Played) -> usize {
     let mut end = begun(out, at, night.line);
-    end = asked::call(out, end, command);
+    end = asked::call(out, end, request);
     end = to_column(out, end, at, ANSWER);
     let verdict = played.verdict;
     let replied = played.answer;
     let next = played.state;
+    let function = request.function;
     match verdict {
         Verdict::Accepted => {
-            end = answer::call(out, end, command, replied, next, played.notifications);
+            end = answer::call(out, end, function, replied, next, played.notifications);
             put(out, end, b"\n")
         }
         Verdict::Rejected(reason) => {
-            end = refused::call(out, end, night, command, reason);
+            end = refused::call(out, end, night, request, reason);
             put(out, end, b"\n")
         }
     }

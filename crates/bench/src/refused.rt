@@ -1,5 +1,4 @@
 // Why a call is refused, in words.
-use crate::call::length;
 use crate::frame::identifier;
 use crate::frame::is_fd;
 use crate::frame::mode;
@@ -7,13 +6,14 @@ use crate::night::Night;
 use crate::night::origin;
 use crate::print::count_of;
 use crate::print::numbered;
+use crate::request::Function;
+use crate::request::Request;
 use can::CONTROLLERS;
 use can::OBJECTS;
 use can::RAM_SIZE;
 use can::Rejection;
 use can::SHEET_SIZE;
 use can::State;
-use script::command::Command;
 use text::put::put;
 
 // The controller of an object.
@@ -38,64 +38,27 @@ fn mode_of(state: State, controller: u32) -> u32 {
     k.mode as u32
 }
 
-// The object that a command names.
-fn object_named(command: Command) -> u32 {
-    match command {
-        Command::Write {
-            object,
-            handle: _,
-            identifier: _,
-            length: _,
-        } => object,
-        Command::Sent { object } => object,
-        _ => 0,
-    }
-}
-
-// The controller that a command names, or that of its object.
-fn controller_named(state: State, command: Command) -> u64 {
-    match command {
-        Command::Set {
-            controller,
-            mode: _,
-        } => controller as u64,
-        Command::Get { controller } => controller as u64,
-        Command::BusOff { controller } => controller as u64,
-        Command::Arrived {
-            controller,
-            identifier: _,
-            length: _,
-        } => controller as u64,
-        _ => controller_of(state, object_named(command)),
-    }
-}
-
-// The identifier that a command names.
-fn identifier_named(command: Command) -> u32 {
-    match command {
-        Command::Write {
-            object: _,
-            handle: _,
-            identifier,
-            length: _,
-        } => identifier,
-        Command::Arrived {
-            controller: _,
-            identifier,
-            length: _,
-        } => identifier,
-        _ => 0,
+// The controller that a call names, or that of its object.
+fn controller_named(state: State, request: Request) -> u64 {
+    let function = request.function;
+    match function {
+        Function::Write | Function::Sent => controller_of(state, request.object),
+        _ => request.controller as u64,
     }
 }
 
 // 6: a service that cannot go there from here.
-fn transition(out: &mut [u8], at: usize, state: State, command: Command) -> usize {
-    match command {
-        Command::Init { length: _ } => put(out, at, b"the driver is initialised already"),
-        Command::Set {
-            controller,
-            mode: asked,
-        } => forbidden(out, at, controller, mode_of(state, controller), asked),
+fn transition(out: &mut [u8], at: usize, state: State, request: Request) -> usize {
+    let function = request.function;
+    match function {
+        Function::Init => put(out, at, b"the driver is initialised already"),
+        Function::Set => forbidden(
+            out,
+            at,
+            request.controller,
+            mode_of(state, request.controller),
+            request.number,
+        ),
         _ => started_or_uninit(out, at, state),
     }
 }
@@ -180,7 +143,7 @@ fn arguments(
     out: &mut [u8],
     at: usize,
     state: State,
-    command: Command,
+    request: Request,
     reason: Rejection,
 ) -> usize {
     match reason {
@@ -188,22 +151,22 @@ fn arguments(
             out,
             at,
             b" is no configured sending object",
-            object_named(command),
+            request.object,
         ),
         Rejection::ParamDataLength => data_length(
             out,
             at,
-            identifier_named(command),
-            length(command),
+            request.identifier,
+            request.length as usize,
         ),
         Rejection::ParamController => controller(
             out,
             at,
             b" is not configured",
-            controller_named(state, command),
+            controller_named(state, request),
         ),
-        Rejection::BadIdentifier => bad_identifier(out, at, identifier_named(command)),
-        Rejection::BadLength => wire_length(out, at, identifier_named(command), length(command)),
+        Rejection::BadIdentifier => bad_identifier(out, at, request.identifier),
+        Rejection::BadLength => wire_length(out, at, request.identifier, request.length as usize),
         _ => put(out, at, b"the configuration is bad"),
     }
 }
@@ -213,39 +176,34 @@ fn circumstances(
     out: &mut [u8],
     at: usize,
     night: Night,
-    command: Command,
+    request: Request,
     reason: Rejection,
 ) -> usize {
     let state = night.state;
     let origins = night.origins;
     match reason {
         Rejection::Uninit => put(out, at, b"the driver is not initialised"),
-        Rejection::Transition => transition(out, at, state, command),
+        Rejection::Transition => transition(out, at, state, request),
         Rejection::SheetTooShort => sheet(out, at, night.sheet),
         Rejection::WrongRamSize => memory(out, at, night.memory),
         Rejection::NotStarted => controller(
             out,
             at,
             b" is not STARTED",
-            controller_named(state, command),
+            controller_named(state, request),
         ),
-        Rejection::ObjectBusy => busy(
-            out,
-            at,
-            object_named(command),
-            origin(origins, object_named(command)),
-        ),
+        Rejection::ObjectBusy => busy(out, at, request.object, origin(origins, request.object)),
         Rejection::BusOff => controller(
             out,
             at,
             b" is off the bus",
-            controller_named(state, command),
+            controller_named(state, request),
         ),
         Rejection::NothingToSend => object(
             out,
             at,
             b" holds no frame that waits to be sent",
-            object_named(command),
+            request.object,
         ),
         _ => put(out, at, b"the driver state is not valid"),
     }
@@ -272,13 +230,13 @@ fn refusal(out: &mut [u8], at: usize, reason: Rejection) -> usize {
 }
 
 // `rejected 35: controller 0 is not STARTED`; the night is as it was before the call.
-pub fn call(out: &mut [u8], at: usize, night: Night, command: Command, reason: Rejection) -> usize {
+pub fn call(out: &mut [u8], at: usize, night: Night, request: Request, reason: Rejection) -> usize {
     let state = night.state;
     let mut end = refusal(out, at, reason);
     end = numbered(out, end, b"", can::reason(reason) as u64);
     end = put(out, end, b": ");
     if is_of_arguments(reason) {
-        return arguments(out, end, state, command, reason);
+        return arguments(out, end, state, request, reason);
     }
-    circumstances(out, end, night, command, reason)
+    circumstances(out, end, night, request, reason)
 }

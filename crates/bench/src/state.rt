@@ -10,15 +10,20 @@ use can::State;
 use places::range::limited;
 use text::put::put;
 
+// How many controllers and objects are configured.
+pub fn in_use(out: &mut [u8], at: usize, controllers: usize, objects: usize) -> usize {
+    let mut end = count_of(out, at, controllers as u64, b" controller");
+    end = put(out, end, b", ");
+    count_of(out, end, objects as u64, b" object")
+}
+
 // Whether the driver is initialised, and how much is configured.
 pub fn counts(out: &mut [u8], at: usize, state: State) -> usize {
     if !state.initialised {
         return put(out, at, b"not initialised");
     }
-    let mut end = put(out, at, b"initialised: ");
-    end = count_of(out, end, state.controller_count as u64, b" controller");
-    end = put(out, end, b", ");
-    count_of(out, end, state.object_count as u64, b" object")
+    let end = put(out, at, b"initialised: ");
+    in_use(out, end, state.controller_count, state.object_count)
 }
 
 fn request(out: &mut [u8], at: usize, asked: u8) -> usize {

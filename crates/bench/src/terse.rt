@@ -4,43 +4,30 @@ use crate::notifications::Notification;
 use crate::notifications::notification_at;
 use crate::print::hex_or_none;
 use crate::print::numbered;
+use crate::request::Function;
 use can::Controller;
 use can::Mailbox;
 use can::State;
 use can::Verdict;
 use places::range::limited;
-use script::command::Command;
 use text::put::put;
 use text::put::put_decimal;
 
 // The name of a call.
-fn name(out: &mut [u8], at: usize, command: Command) -> usize {
-    match command {
-        Command::Init { length: _ } => put(out, at, b" init "),
-        Command::DeInit => put(out, at, b" deinit "),
-        Command::Set {
-            controller: _,
-            mode: _,
-        } => put(out, at, b" set "),
-        Command::Get { controller: _ } => put(out, at, b" get "),
-        Command::Write {
-            object: _,
-            handle: _,
-            identifier: _,
-            length: _,
-        } => put(out, at, b" write "),
-        Command::PollWrite => put(out, at, b" poll-write "),
-        Command::PollRead => put(out, at, b" poll-read "),
-        Command::PollMode => put(out, at, b" poll-mode "),
-        Command::PollBusOff => put(out, at, b" poll-busoff "),
-        Command::Sent { object: _ } => put(out, at, b" sent "),
-        Command::BusOff { controller: _ } => put(out, at, b" busoff "),
-        Command::Arrived {
-            controller: _,
-            identifier: _,
-            length: _,
-        } => put(out, at, b" arrived "),
-        _ => at,
+fn name(out: &mut [u8], at: usize, function: Function) -> usize {
+    match function {
+        Function::Init => put(out, at, b" init "),
+        Function::DeInit => put(out, at, b" deinit "),
+        Function::Set => put(out, at, b" set "),
+        Function::Get => put(out, at, b" get "),
+        Function::Write => put(out, at, b" write "),
+        Function::PollWrite => put(out, at, b" poll-write "),
+        Function::PollRead => put(out, at, b" poll-read "),
+        Function::PollMode => put(out, at, b" poll-mode "),
+        Function::PollBusOff => put(out, at, b" poll-busoff "),
+        Function::Sent => put(out, at, b" sent "),
+        Function::BusOff => put(out, at, b" busoff "),
+        _ => put(out, at, b" arrived "),
     }
 }
 
@@ -78,14 +65,14 @@ pub fn call(
     out: &mut [u8],
     at: usize,
     line: u64,
-    command: Command,
+    function: Function,
     verdict: Verdict,
     replied: Answer,
     sheet: &[u32],
     count: usize,
 ) -> usize {
     let mut end = put_decimal(out, at, line);
-    end = name(out, end, command);
+    end = name(out, end, function);
     end = put_decimal(out, end, can::return_code(verdict) as u64);
     end = numbered(out, end, b" ", can::verdict_reason(verdict) as u64);
     end = answer(out, end, replied);

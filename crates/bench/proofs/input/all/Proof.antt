@@ -6,21 +6,21 @@ use Rattle.bench.proofs.input.all.Statement.{statement}
 use Rattle.bench.proofs.input.all.Tie as tie
 
 abbrev Inv-loop : tie.InvT-loop
-Inv-loop input₀ line₀ memory₀ sheet₀ bytes₀ out₀ taken₀ reader₀ turns₀ input line memory sheet bytes out taken reader turns =
+Inv-loop input₀ line₀ memory₀ sheet₀ bytes₀ out₀ taken₀ playing₀ steps₀ input line memory sheet bytes out taken playing steps =
     (length input ≡ length input₀) × (length line ≡ length line₀) × (length memory ≡ length memory₀) × (length sheet ≡ length sheet₀) × (length out ≡ length out₀) × (length taken ≡ length taken₀)
 
 abbrev μ-loop : tie.MeasureT-loop
-μ-loop input₀ line₀ memory₀ sheet₀ bytes₀ out₀ taken₀ reader₀ turns₀ input line memory sheet bytes out taken reader turns =
-    turns
+μ-loop input₀ line₀ memory₀ sheet₀ bytes₀ out₀ taken₀ playing₀ steps₀ input line memory sheet bytes out taken playing steps =
+    steps
 
 loop-holds : tie.Need-loop-holds Inv-loop μ-loop
 loop-holds c = search needs
 
-next-piece-requires : tie.Need-next-piece-requires Inv-loop μ-loop
-next-piece-requires c κs = search needs
+step-requires : tie.Need-step-requires Inv-loop μ-loop
+step-requires c κs = search needs
 
-sub-turns : tie.Need-sub-turns Inv-loop μ-loop
-sub-turns c = search needs
+sub-steps : tie.Need-sub-steps Inv-loop μ-loop
+sub-steps c = search needs
 
 loop-less : tie.Need-loop-less Inv-loop μ-loop
 loop-less c = search needs
@@ -62,8 +62,8 @@ all-spec =
     Inv-loop
     μ-loop
     loop-holds
-    next-piece-requires
-    sub-turns
+    step-requires
+    sub-steps
     loop-less
     loop-again
     loop-less-2

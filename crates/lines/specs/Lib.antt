@@ -1,0 +1,2 @@
+-- Lines of the input.
+pub mod Line

@@ -1,0 +1,2 @@
+// Standard input, line by line.
+pub mod reader;
