@@ -29,6 +29,10 @@ and-false : (b : Bool) → (b && false) ≡ false
 and-false true = refl
 and-false false = refl
 
+and-assoc : (a b c : Bool) → (a && b && c) ≡ (a && (b && c))
+and-assoc true b c = refl
+and-assoc false b c = refl
+
 and-pairs : (a b c d : Bool) → (a && b && (c && d)) ≡ (a && c && (b && d))
 and-pairs true b true d = refl
 and-pairs true b false d = and-false b
@@ -62,6 +66,10 @@ all-below-from p m (suc n) l h =
     rw (h n le (omega arith)) (and-true (all-below n p) ∙ all-below-from p m n le (λ i a b. h i a (omega arith))))
     (eq-or-lt-of-le l)
 
+choice : (t a b : Bool) → (cond t a true && cond t true b) ≡ cond t a b
+choice true a b = and-true a
+choice false a b = refl
+
 choices : (t a₁ a₂ b₁ b₂ : Bool) → cond t (a₁ && a₂) (b₁ && b₂) ≡ (cond t a₁ b₁ && cond t a₂ b₂)
 choices true a₁ a₂ b₁ b₂ = refl
 choices false a₁ a₂ b₁ b₂ = refl
@@ -72,6 +80,32 @@ module _ (n count : ℕ) (p : ℕ → Bool) where
   in-use-all m e =
       all-below-ext m p (λ i. cond (ltb i count) (p i) true) (λ i l. rw (lt-ltb i count (omega arith)))
       ∙ sym (all-below-from (λ i. cond (ltb i count) (p i) true) m n (omega arith) (λ i a b. rw (le-ltb i count (omega arith))))
+
+-- p holds of every unused place
+abbrev pub all-unused : ℕ → ℕ → (ℕ → Bool) → Bool
+all-unused n count p = all-below n (λ i. cond (ltb i count) true (p i))
+
+module _ (n count : ℕ) (p : ℕ → Bool) where
+  -- Below the count no place is unused.
+  pub unused-none : (ok : Bool) → n ≤ count → ok ≡ (ok && all-unused n count p)
+  unfolding all-below
+  unused-none ok l =
+      sym (ap (λ (b : Bool). ok && b) (all-below-from (λ i. cond (ltb i count) true (p i)) 0 n (omega arith) (λ i a b. rw (lt-ltb i count (omega arith)))) ∙ and-true ok)
+
+  -- From the count on each place is unused.
+  pub unused-more : (ok₀ : Bool) {ok r : Bool} → count ≤ n → ok ≡ (ok₀ && all-unused n count p) → r ≡ p n → (ok && r) ≡ (ok₀ && all-unused (n + 1) count p)
+  unused-more ok₀ {r = r} l e q =
+      ap (λ (b : Bool). b && r) e ∙ and-assoc ok₀ (all-unused n count p) r
+      ∙ ap (λ (b : Bool). ok₀ && b) (all-below-more (λ i. cond (ltb i count) true (p i)) n refl (rw (le-ltb n count l) q))
+
+  -- One test for the places in use and another for the unused ones.
+  pub all-places : (q : ℕ → Bool) (ok₀ : Bool) {ok : Bool} → ok₀ ≡ all-in-use n count q → ok ≡ (ok₀ && all-unused n count p)
+      → ok ≡ all-below n (λ i. cond (ltb i count) (q i) (p i))
+  all-places q ok₀ e₀ e =
+      e ∙ ap (λ (b : Bool). b && all-unused n count p) e₀
+      ∙ all-below-and n (λ i. cond (ltb i count) (q i) true) (λ i. cond (ltb i count) true (p i))
+      ∙ all-below-ext n (λ i. cond (ltb i count) (q i) true && cond (ltb i count) true (p i)) (λ i. cond (ltb i count) (q i) (p i))
+      (λ i l. choice (ltb i count) (q i) (p i))
 
 -- Two tests of each place in use, and two others of each unused one.
 pub by-use : (n count : ℕ) (p₁ p₂ q₁ q₂ : ℕ → Bool)

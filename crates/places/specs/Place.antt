@@ -30,7 +30,14 @@ mailbox-valid-at ks os ms h =
 abbrev pub mailbox-empty-at : List Mailbox → ℕ → Bool
 mailbox-empty-at ms h = mailbox-empty (mailbox-at ms h)
 
+-- the configuration and the mailbox of an object in use are valid
+abbrev pub place-valid-at : List Controller → ℕ → List (ObjectConfig can-format) → List Mailbox → ℕ → Bool
+place-valid-at ks controller-count os ms h = object-valid-at controller-count os h && mailbox-valid-at ks os ms h
+
+-- the configuration and the mailbox of an unused object are at rest
+abbrev pub place-unused-at : List (ObjectConfig can-format) → List Mailbox → ℕ → Bool
+place-unused-at os ms h = object-unused-at os h && mailbox-empty-at ms h
+
 -- object h, of which so many are in use: valid with its mailbox if it is, else both at rest
 abbrev pub object-and-mailbox-valid-at : List Controller → ℕ → List (ObjectConfig can-format) → List Mailbox → ℕ → ℕ → Bool
-object-and-mailbox-valid-at ks controller-count os ms count h =
-    cond (ltb h count) (object-valid-at controller-count os h && mailbox-valid-at ks os ms h) (object-unused-at os h && mailbox-empty-at ms h)
+object-and-mailbox-valid-at ks controller-count os ms count h = cond (ltb h count) (place-valid-at ks controller-count os ms h) (place-unused-at os ms h)
