@@ -1,0 +1,3 @@
+-- Laws of calls by value.
+pub mod Arms
+pub mod Laws
