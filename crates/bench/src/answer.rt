@@ -1,9 +1,9 @@
 // What an accepted call answers, in words.
-use crate::call::Answer;
 use crate::frame::mode;
 use crate::print::numbered;
-use crate::request::Function;
 use crate::state;
+use calls::answer::Answer;
+use calls::request::Function;
 use can::State;
 use text::put::put;
 

@@ -3,8 +3,9 @@ use crate::frame::identifier;
 use crate::frame::mode;
 use crate::print::count_of;
 use crate::print::numbered;
-use crate::request::Function;
-use crate::request::Request;
+use crate::request::Wanted;
+use calls::request::Function;
+use calls::request::Request;
 use text::put::put;
 
 fn set(out: &mut [u8], at: usize, controller: u32, asked: u32) -> usize {
@@ -21,20 +22,20 @@ fn frame(out: &mut [u8], at: usize, word: u32, length: u32) -> usize {
     count_of(out, end, length as u64, b" byte")
 }
 
-fn write(out: &mut [u8], at: usize, request: Request) -> usize {
+fn write(out: &mut [u8], at: usize, request: Request, length: u32) -> usize {
     let mut end = numbered(out, at, b"write object ", request.object as u64);
     end = numbered(out, end, b", handle ", request.number as u64);
-    frame(out, end, request.identifier, request.length)
+    frame(out, end, request.identifier, length)
 }
 
-fn arrived(out: &mut [u8], at: usize, request: Request) -> usize {
+fn arrived(out: &mut [u8], at: usize, request: Request, length: u32) -> usize {
     let end = numbered(
         out,
         at,
         b"arrived on controller ",
         request.controller as u64,
     );
-    frame(out, end, request.identifier, request.length)
+    frame(out, end, request.identifier, length)
 }
 
 fn init(out: &mut [u8], at: usize, length: u32) -> usize {
@@ -43,28 +44,30 @@ fn init(out: &mut [u8], at: usize, length: u32) -> usize {
 }
 
 // A service or an event.
-fn other(out: &mut [u8], at: usize, request: Request) -> usize {
+fn other(out: &mut [u8], at: usize, wanted: Wanted) -> usize {
+    let request = wanted.request;
     let function = request.function;
     match function {
-        Function::Init => init(out, at, request.length),
+        Function::Init => init(out, at, wanted.length),
         Function::DeInit => put(out, at, b"deinit"),
         Function::Set => set(out, at, request.controller, request.number),
         Function::Get => numbered(out, at, b"get controller ", request.controller as u64),
-        Function::Write => write(out, at, request),
+        Function::Write => write(out, at, request, wanted.length),
         Function::Sent => numbered(out, at, b"sent from object ", request.object as u64),
         Function::BusOff => numbered(out, at, b"busoff of controller ", request.controller as u64),
-        _ => arrived(out, at, request),
+        _ => arrived(out, at, request, wanted.length),
     }
 }
 
 // A call.
-pub fn call(out: &mut [u8], at: usize, request: Request) -> usize {
+pub fn call(out: &mut [u8], at: usize, wanted: Wanted) -> usize {
+    let request = wanted.request;
     let function = request.function;
     match function {
         Function::PollWrite => put(out, at, b"poll write"),
         Function::PollRead => put(out, at, b"poll read"),
         Function::PollMode => put(out, at, b"poll mode"),
         Function::PollBusOff => put(out, at, b"poll busoff"),
-        _ => other(out, at, request),
+        _ => other(out, at, wanted),
     }
 }

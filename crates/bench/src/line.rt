@@ -1,7 +1,4 @@
 // One line of a night.
-use crate::call::Answer;
-use crate::call::Played;
-use crate::call::perform;
 use crate::night::Night;
 use crate::night::Tally;
 use crate::night::more;
@@ -10,15 +7,19 @@ use crate::night::with_origin;
 use crate::object::bytes;
 use crate::plain;
 use crate::print::numbered;
-use crate::request::Request;
+use crate::request::Asks;
+use crate::request::Wanted;
 use crate::request::is_bus_off_poll;
-use crate::request::is_call;
 use crate::request::request_of;
 use crate::tell;
 use crate::tell::Poll;
 use crate::tell::Told;
 use crate::terse;
 use crate::trouble::message;
+use calls::answer::Answer;
+use calls::perform::Played;
+use calls::perform::perform;
+use calls::request::Request;
 use can::OBJECTS;
 use lines::reader::of_bytes;
 use script::command::Command;
@@ -55,14 +56,14 @@ fn tally_after(tally: Tally, answer: Answer) -> Tally {
 // The call and its notifications in words.
 fn in_words(
     night: Night,
-    request: Request,
+    wanted: Wanted,
     played: Played,
     ram: &[u8],
     sheet: &[u32],
     out: &mut [u8],
     taken: &mut [u8],
 ) -> Told {
-    let at = plain::call(out, night.at, night, request, played);
+    let at = plain::call(out, night.at, night, wanted, played);
     let answer = played.answer;
     let before = night.tally;
     let tally = tally_after(before, answer);
@@ -72,6 +73,7 @@ fn in_words(
         taken_at: night.taken_at,
         tally: tally,
     };
+    let request = wanted.request;
     let poll = Poll {
         line: night.line,
         by_bus_off: is_bus_off_poll(request),
@@ -120,15 +122,16 @@ fn in_numbers(
 // A call of the driver, with as much of the memory and the sheet as is lent, and the bytes that its line brings.
 fn performed(
     night: Night,
-    request: Request,
+    wanted: Wanted,
     bytes: &[u8],
     memory: &mut [u8],
     sheet: &mut [u32],
 ) -> Played {
     let state = night.state;
+    let request = wanted.request;
     let lent_bytes = of_bytes(night.memory, memory);
     let lent_words = of_words(night.sheet, sheet);
-    let count = of_bytes(request.length as usize, bytes);
+    let count = of_bytes(wanted.length as usize, bytes);
     perform(
         state,
         &mut memory[..lent_bytes],
@@ -141,7 +144,7 @@ fn performed(
 // What came of a call, in the night's style.
 fn told(
     night: Night,
-    request: Request,
+    wanted: Wanted,
     played: Played,
     memory: &[u8],
     sheet: &[u32],
@@ -150,9 +153,9 @@ fn told(
 ) -> Told {
     if night.plain {
         let lent = of_bytes(night.memory, memory);
-        return in_words(night, request, played, &memory[..lent], sheet, out, taken);
+        return in_words(night, wanted, played, &memory[..lent], sheet, out, taken);
     }
-    in_numbers(night, request, played, sheet, out)
+    in_numbers(night, wanted.request, played, sheet, out)
 }
 
 // The night after a call.
@@ -178,29 +181,29 @@ fn after(night: Night, played: Played, told: Told) -> Night {
 // Tells what came of a call.
 fn answered(
     night: Night,
-    request: Request,
+    wanted: Wanted,
     played: Played,
     memory: &[u8],
     sheet: &[u32],
     out: &mut [u8],
     taken: &mut [u8],
 ) -> Night {
-    let told = told(night, request, played, memory, sheet, out, taken);
+    let told = told(night, wanted, played, memory, sheet, out, taken);
     after(night, played, told)
 }
 
 // Plays a call and tells what came of it.
 fn call(
     night: Night,
-    request: Request,
+    wanted: Wanted,
     bytes: &[u8],
     memory: &mut [u8],
     sheet: &mut [u32],
     out: &mut [u8],
     taken: &mut [u8],
 ) -> Night {
-    let played = performed(night, request, bytes, memory, sheet);
-    answered(night, request, played, memory, sheet, out, taken)
+    let played = performed(night, wanted, bytes, memory, sheet);
+    answered(night, wanted, played, memory, sheet, out, taken)
 }
 
 fn data(night: Night, object: u32, memory: &[u8], out: &mut [u8]) -> usize {
@@ -292,9 +295,9 @@ pub fn play(
     let command = script::command::read(line, bytes);
     let mut next = night;
     next.line = more(night.line);
-    let request = request_of(command);
-    if is_call(request) {
-        return call(next, request, bytes, memory, sheet, out, taken);
+    let asks = request_of(command);
+    match asks {
+        Asks::Call(wanted) => call(next, wanted, bytes, memory, sheet, out, taken),
+        Asks::Other => other(next, command, line, memory, out),
     }
-    other(next, command, line, memory, out)
 }

@@ -3,7 +3,6 @@
 //     bench [plain|words] < SCRIPT
 mod answer;
 mod asked;
-mod call;
 mod frame;
 mod input;
 mod line;

@@ -1,7 +1,6 @@
 // The plain style: each line in words.
 use crate::answer;
 use crate::asked;
-use crate::call::Played;
 use crate::night::Night;
 use crate::object;
 use crate::print::hex_or_none;
@@ -9,10 +8,11 @@ use crate::print::numbered;
 use crate::print::right;
 use crate::print::to_column;
 use crate::refused;
-use crate::request::Request;
+use crate::request::Wanted;
 use crate::state;
 use crate::trouble::expected;
 use crate::trouble::message;
+use calls::perform::Played;
 use can::State;
 use can::Verdict;
 use script::name::Name;
@@ -29,13 +29,14 @@ fn begun(out: &mut [u8], at: usize, line: u64) -> usize {
 }
 
 // A call with its answer; the night is as it was before the call.
-pub fn call(out: &mut [u8], at: usize, night: Night, request: Request, played: Played) -> usize {
+pub fn call(out: &mut [u8], at: usize, night: Night, wanted: Wanted, played: Played) -> usize {
     let mut end = begun(out, at, night.line);
-    end = asked::call(out, end, request);
+    end = asked::call(out, end, wanted);
     end = to_column(out, end, at, ANSWER);
     let verdict = played.verdict;
     let replied = played.answer;
     let next = played.state;
+    let request = wanted.request;
     let function = request.function;
     match verdict {
         Verdict::Accepted => {
@@ -43,7 +44,7 @@ pub fn call(out: &mut [u8], at: usize, night: Night, request: Request, played: P
             put(out, end, b"\n")
         }
         Verdict::Rejected(reason) => {
-            end = refused::call(out, end, night, request, reason);
+            end = refused::call(out, end, night, wanted, reason);
             put(out, end, b"\n")
         }
     }

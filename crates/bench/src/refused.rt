@@ -6,8 +6,9 @@ use crate::night::Night;
 use crate::night::origin;
 use crate::print::count_of;
 use crate::print::numbered;
-use crate::request::Function;
-use crate::request::Request;
+use crate::request::Wanted;
+use calls::request::Function;
+use calls::request::Request;
 use can::CONTROLLERS;
 use can::OBJECTS;
 use can::RAM_SIZE;
@@ -139,13 +140,8 @@ fn bad_identifier(out: &mut [u8], at: usize, word: u32) -> usize {
 }
 
 // What is wrong with the arguments of a call.
-fn arguments(
-    out: &mut [u8],
-    at: usize,
-    state: State,
-    request: Request,
-    reason: Rejection,
-) -> usize {
+fn arguments(out: &mut [u8], at: usize, state: State, wanted: Wanted, reason: Rejection) -> usize {
+    let request = wanted.request;
     match reason {
         Rejection::ParamHandle => object(
             out,
@@ -157,7 +153,7 @@ fn arguments(
             out,
             at,
             request.identifier,
-            request.length as usize,
+            wanted.length as usize,
         ),
         Rejection::ParamController => controller(
             out,
@@ -166,7 +162,7 @@ fn arguments(
             controller_named(state, request),
         ),
         Rejection::BadIdentifier => bad_identifier(out, at, request.identifier),
-        Rejection::BadLength => wire_length(out, at, request.identifier, request.length as usize),
+        Rejection::BadLength => wire_length(out, at, request.identifier, wanted.length as usize),
         _ => put(out, at, b"the configuration is bad"),
     }
 }
@@ -230,13 +226,14 @@ fn refusal(out: &mut [u8], at: usize, reason: Rejection) -> usize {
 }
 
 // `rejected 35: controller 0 is not STARTED`; the night is as it was before the call.
-pub fn call(out: &mut [u8], at: usize, night: Night, request: Request, reason: Rejection) -> usize {
+pub fn call(out: &mut [u8], at: usize, night: Night, wanted: Wanted, reason: Rejection) -> usize {
+    let request = wanted.request;
     let state = night.state;
     let mut end = refusal(out, at, reason);
     end = numbered(out, end, b"", can::reason(reason) as u64);
     end = put(out, end, b": ");
     if is_of_arguments(reason) {
-        return arguments(out, end, state, request, reason);
+        return arguments(out, end, state, wanted, reason);
     }
     circumstances(out, end, night, request, reason)
 }

@@ -1,76 +1,65 @@
-// A call of the driver that a line asks for.
+// What a line asks for.
+use calls::request::Function;
+use calls::request::Request;
 use script::command::Command;
 
-// The function of the driver.
-pub enum Function {
-    NoCall,
-    Init,
-    DeInit,
-    Set,
-    Get,
-    Write,
-    PollWrite,
-    PollRead,
-    PollMode,
-    PollBusOff,
-    Sent,
-    BusOff,
-    Arrived,
-}
-
-// What the call names: its controller or its object, the handle of a frame or the mode asked for, the identifier, and how many bytes the
-// line brings. What a function does not take is 0.
-pub struct Request {
-    pub function: Function,
-    pub controller: u32,
-    pub object: u32,
-    pub number: u32,
-    pub identifier: u32,
+// The call that a line wants, and how many bytes the line brings for it.
+pub struct Wanted {
+    pub request: Request,
     pub length: u32,
 }
 
-fn asked(
+pub enum Asks {
+    Call(Wanted),
+    Other,
+}
+
+fn call(
     function: Function,
     controller: u32,
     object: u32,
     number: u32,
     identifier: u32,
     length: u32,
-) -> Request {
-    Request {
+) -> Asks {
+    let request = Request {
         function: function,
         controller: controller,
         object: object,
         number: number,
         identifier: identifier,
+    };
+    Asks::Call(Wanted {
+        request: request,
         length: length,
-    }
+    })
 }
 
-pub fn request_of(command: Command) -> Request {
+// What a function does not take is 0.
+pub fn request_of(command: Command) -> Asks {
     match command {
-        Command::Init { length } => asked(Function::Init, 0, 0, 0, 0, length),
-        Command::DeInit => asked(Function::DeInit, 0, 0, 0, 0, 0),
-        Command::Set { controller, mode } => asked(Function::Set, controller, 0, mode, 0, 0),
-        Command::Get { controller } => asked(Function::Get, controller, 0, 0, 0, 0),
+        Command::Init { length } => call(Function::Init, 0, 0, 0, 0, length),
+        Command::DeInit => call(Function::DeInit, 0, 0, 0, 0, 0),
+        Command::Set { controller, mode } => call(Function::Set, controller, 0, mode, 0, 0),
+        Command::Get { controller } => call(Function::Get, controller, 0, 0, 0, 0),
         Command::Write {
             object,
             handle,
             identifier,
             length,
-        } => asked(Function::Write, 0, object, handle, identifier, length),
-        Command::PollWrite => asked(Function::PollWrite, 0, 0, 0, 0, 0),
-        Command::PollRead => asked(Function::PollRead, 0, 0, 0, 0, 0),
-        Command::PollMode => asked(Function::PollMode, 0, 0, 0, 0, 0),
-        Command::PollBusOff => asked(Function::PollBusOff, 0, 0, 0, 0, 0),
-        Command::Sent { object } => asked(Function::Sent, 0, object, 0, 0, 0),
-        Command::BusOff { controller } => asked(Function::BusOff, controller, 0, 0, 0, 0),
+        } => call(Function::Write, 0, object, handle, identifier, length),
+        Command::PollWrite => call(Function::PollWrite, 0, 0, 0, 0, 0),
+        Command::PollRead => call(Function::PollRead, 0, 0, 0, 0, 0),
+        Command::PollMode => call(Function::PollMode, 0, 0, 0, 0, 0),
+        Command::PollBusOff => call(Function::PollBusOff, 0, 0, 0, 0, 0),
+        Command::Sent { object } => call(Function::Sent, 0, object, 0, 0, 0),
+        Command::BusOff { controller } => call(Function::BusOff, controller, 0, 0, 0, 0),
         Command::Arrived {
             controller,
             identifier,
             length,
-        } => asked(Function::Arrived, controller, 0, 0, identifier, length),
-        _ => asked(Function::NoCall, 0, 0, 0, 0, 0),
+        } => call(Function::Arrived, controller, 0, 0, identifier, length),
+        _ => Asks::Other,
     }
 }
 
@@ -80,13 +69,5 @@ pub fn is_bus_off_poll(request: Request) -> bool {
     match function {
         Function::PollBusOff => true,
         _ => false,
-    }
-}
-
-pub fn is_call(request: Request) -> bool {
-    let function = request.function;
-    match function {
-        Function::NoCall => false,
-        _ => true,
     }
 }

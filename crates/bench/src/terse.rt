@@ -1,10 +1,10 @@
 // The words style: one line for each call, for programs to compare.
-use crate::call::Answer;
 use crate::notifications::Notification;
 use crate::notifications::notification_at;
 use crate::print::hex_or_none;
 use crate::print::numbered;
-use crate::request::Function;
+use calls::answer::Answer;
+use calls::request::Function;
 use can::Controller;
 use can::Mailbox;
 use can::State;
@@ -27,7 +27,7 @@ fn name(out: &mut [u8], at: usize, function: Function) -> usize {
         Function::PollBusOff => put(out, at, b" poll-busoff "),
         Function::Sent => put(out, at, b" sent "),
         Function::BusOff => put(out, at, b" busoff "),
-        _ => put(out, at, b" arrived "),
+        Function::Arrived => put(out, at, b" arrived "),
     }
 }
 
