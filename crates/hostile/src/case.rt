@@ -7,52 +7,66 @@
 //     kind of the call 1 · a 4 · b 4 · c 4 · words of the sheet 4 · bytes of the memory 4
 //     the rest: the call's bytes (a configuration, or the data of a frame)
 //
-// src/call.rt says what a, b and c are to each kind of call.
+// a is the controller or the object, b the mode asked for or the handle, c the identifier.
 use crate::number::further;
 use crate::number::number;
 use crate::number::small;
 use crate::state::STATE_BYTES;
 use crate::state::state;
+use calls::request::Function;
+use calls::request::Request;
 use can::State;
 
 // Bytes of a case before those of its call.
 pub const CASE_BYTES: usize = STATE_BYTES + 21;
 
-pub struct Call {
-    pub kind: u8,
-    pub a: u32,
-    pub b: u32,
-    pub c: u32,
-}
-
 pub struct Case {
     pub state: State,
-    pub call: Call,
+    pub request: Request,
     pub sheet: usize,
     pub memory: usize,
 }
 
-fn read_call(bytes: &[u8], at: usize) -> Call {
-    let kind = small(bytes, at);
+// The function of a kind: the services, the polls, the events.
+fn function_of(kind: u8) -> Function {
+    match kind {
+        0 => Function::Init,
+        1 => Function::DeInit,
+        2 => Function::Set,
+        3 => Function::Get,
+        4 => Function::Write,
+        5 => Function::PollWrite,
+        6 => Function::PollRead,
+        7 => Function::PollMode,
+        8 => Function::PollBusOff,
+        9 => Function::Sent,
+        10 => Function::BusOff,
+        _ => Function::Arrived,
+    }
+}
+
+fn read_request(bytes: &[u8], at: usize) -> Request {
+    let function = function_of(small(bytes, at));
     let a = number(bytes, further(at, 1));
     let b = number(bytes, further(at, 5));
     let c = number(bytes, further(at, 9));
-    Call {
-        kind: kind,
-        a: a,
-        b: b,
-        c: c,
+    Request {
+        function: function,
+        controller: a,
+        object: a,
+        number: b,
+        identifier: c,
     }
 }
 
 pub fn read_case(bytes: &[u8]) -> Case {
     let state = state(bytes);
-    let call = read_call(bytes, STATE_BYTES);
+    let request = read_request(bytes, STATE_BYTES);
     let sheet = number(bytes, STATE_BYTES + 13) as usize;
     let memory = number(bytes, STATE_BYTES + 17) as usize;
     Case {
         state: state,
-        call: call,
+        request: request,
         sheet: sheet,
         memory: memory,
     }

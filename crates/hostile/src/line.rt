@@ -1,7 +1,5 @@
 // One line of the input: a case is played, and what came of it is put down.
 ghost use Rattle.io.specs.Counts.{Counts};
-use crate::call::Played;
-use crate::call::perform;
 use crate::case::CASE_BYTES;
 use crate::case::Case;
 use crate::case::read_case;
@@ -13,18 +11,14 @@ use crate::print::answered;
 use crate::print::changes;
 use crate::print::unreadable;
 use crate::same::same;
+use calls::perform::Played;
+use calls::perform::perform;
 use config::bytes::after;
+use lines::reader::of_bytes;
 use words::bytes::LONGEST_LINE;
 use words::bytes::MOST_BYTES;
 use words::reading::Reading;
 use words::split::word;
-
-// So many of the bytes, or all if there are fewer.
-pub fn of_bytes(n: usize, bytes: &[u8]) -> usize
-    ensures { λ r. ⌜ Counts r (now (bytes .entry)) ⌝ }
-{
-    if n < bytes.len() { n } else { bytes.len() }
-}
 
 // So many of the words, or all if there are fewer.
 fn of_words(n: usize, words: &[u32]) -> usize
@@ -36,7 +30,7 @@ fn of_words(n: usize, words: &[u32]) -> usize
 // The call, with as much of the memory and the sheet as the case lends.
 fn performed(case: Case, data: &[u8], memory: &mut [u8], sheet: &mut [u32]) -> Played {
     let state = case.state;
-    let call = case.call;
+    let request = case.request;
     let lent_bytes = of_bytes(case.memory, memory);
     let lent_words = of_words(case.sheet, sheet);
     perform(
@@ -44,7 +38,7 @@ fn performed(case: Case, data: &[u8], memory: &mut [u8], sheet: &mut [u32]) -> P
         &mut memory[..lent_bytes],
         &mut sheet[..lent_words],
         data,
-        call,
+        request,
     )
 }
 

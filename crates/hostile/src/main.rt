@@ -2,7 +2,6 @@
 // model. Each line of the input is one case in hex digits, and src/case.rt says where in its bytes everything stands.
 //
 //     hostile < CASES
-mod call;
 mod case;
 mod input;
 mod line;

@@ -1,5 +1,5 @@
 // The line that a case prints: `LINE CODE REASON ANSWER COUNT STATE MEMORY SHEET`.
-use crate::call::Answer;
+use calls::answer::Answer;
 use can::Verdict;
 use text::put::put;
 use text::put::put_decimal;

@@ -6,21 +6,21 @@ use Rattle.hostile.proofs.input.all.Statement.{statement}
 use Rattle.hostile.proofs.input.all.Tie as tie
 
 abbrev Inv-loop : tie.InvT-loop
-Inv-loop input₀ line₀ memory₀ sheet₀ bytes₀ out₀ reader₀ turns₀ input line memory sheet bytes out reader turns =
+Inv-loop input₀ line₀ memory₀ sheet₀ bytes₀ out₀ playing₀ steps₀ input line memory sheet bytes out playing steps =
     (length input ≡ length input₀) × (length line ≡ length line₀) × (length memory ≡ length memory₀) × (length sheet ≡ length sheet₀) × (length out ≡ length out₀)
 
 abbrev μ-loop : tie.MeasureT-loop
-μ-loop input₀ line₀ memory₀ sheet₀ bytes₀ out₀ reader₀ turns₀ input line memory sheet bytes out reader turns =
-    turns
+μ-loop input₀ line₀ memory₀ sheet₀ bytes₀ out₀ playing₀ steps₀ input line memory sheet bytes out playing steps =
+    steps
 
 loop-holds : tie.Need-loop-holds Inv-loop μ-loop
 loop-holds c = search needs
 
-next-piece-requires : tie.Need-next-piece-requires Inv-loop μ-loop
-next-piece-requires c κs = search needs
+step-requires : tie.Need-step-requires Inv-loop μ-loop
+step-requires c κs = search needs
 
-sub-turns : tie.Need-sub-turns Inv-loop μ-loop
-sub-turns c = search needs
+sub-steps : tie.Need-sub-steps Inv-loop μ-loop
+sub-steps c = search needs
 
 loop-less : tie.Need-loop-less Inv-loop μ-loop
 loop-less c = search needs
@@ -59,8 +59,8 @@ all-spec =
     Inv-loop
     μ-loop
     loop-holds
-    next-piece-requires
-    sub-turns
+    step-requires
+    sub-steps
     loop-less
     loop-again
     loop-less-2
