@@ -4,7 +4,7 @@ ghost use mathlib.Core.Path.{_≡_};
 ghost use Prim.Native.Nat.{_<_, min};
 ghost use lib.ListN.{length};
 ghost use Rattle.io.specs.Counts.{Counts};
-ghost use Rattle.lines.specs.Line.{Kept, line-length};
+ghost use Rattle.lines.specs.Line.{Kept, line-length, Stretched, Refilled, nothing-read, line-count, Advanced};
 use bytes::scan::find;
 use libc::STDIN_FILENO;
 use text::put::put;
@@ -23,7 +23,9 @@ pub struct Reader {
 const TOO_LONG: usize = 0xFFFFFFFFFFFFFFFF;
 
 // Nothing is read yet.
-pub fn begun() -> Reader {
+pub fn begun() -> Reader
+    ensures { λ r. ⌜ r ≡ nothing-read ⌝ }
+{
     Reader {
         taken: 0,
         filled: 0,
@@ -72,7 +74,9 @@ fn without_cr(line: &[u8], count: usize) -> usize
 
 // Reads the next piece. Where there is none the input has ended, and what is read of a line is the whole of it: the last one may end
 // without an LF.
-fn refilled(count: usize, input: &mut [u8]) -> Reader {
+fn refilled(count: usize, input: &mut [u8]) -> Reader
+    ensures { λ r. ⌜ Refilled count (length (now (input .entry))) r ⌝ }
+{
     let got = libc::read(STDIN_FILENO, input);
     let filled = io::count(got, input);
     let ended = filled == 0;
@@ -88,6 +92,7 @@ fn refilled(count: usize, input: &mut [u8]) -> Reader {
 // Takes what the piece has of a line: the bytes before its LF, or all that are left.
 fn stretch(taken: usize, piece: &[u8], count: usize, line: &mut [u8]) -> Reader
     requires { ⌜ taken < length (now piece) ⌝ }
+    ensures { λ r. ⌜ Stretched taken count (now (piece .entry)) (now (line .entry)) (now (line .exit)) r ⌝ }
 {
     let filled = piece.len();
     let end = find(piece, taken, filled, b'\n');
@@ -110,9 +115,18 @@ fn stretch(taken: usize, piece: &[u8], count: usize, line: &mut [u8]) -> Reader
     }
 }
 
-// One step on: a new line begins where the last one was whole; where the piece is taken the next one is read.
-pub fn advanced(reader: Reader, input: &mut [u8], line: &mut [u8]) -> Reader {
-    let count = if reader.whole { 0 } else { reader.count };
+// How many bytes are read of the present line: a new one begins where the last one was whole.
+fn line_count(reader: Reader) -> usize
+    ensures { λ r. ⌜ r ≡ line-count reader ⌝ }
+{
+    if reader.whole { 0 } else { reader.count }
+}
+
+// One step on: within the piece where something of it is left, else the next piece is read.
+pub fn advanced(reader: Reader, input: &mut [u8], line: &mut [u8]) -> Reader
+    ensures { λ r. ⌜ Advanced reader (now (input .entry)) (now (line .entry)) (now (input .exit)) (now (line .exit)) r ⌝ }
+{
+    let count = line_count(reader);
     let filled = of_bytes(reader.filled, input);
     if reader.taken < filled {
         return stretch(reader.taken, &input[..filled], count, line);
