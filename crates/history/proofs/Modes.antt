@@ -1,35 +1,35 @@
 -- Every controller is what the reference modes say: its mode, its waiting request and its mark are the entry's.
 use Prim.Native.Nat.{ℕ, _≤_, _<_}
 use mathlib.Core.Path.{_≡_, refl, ap, sym, _∙_}
-use mathlib.Core.Bool.{Bool, true, false, not, cond, _&&_, _||_}
+use mathlib.Core.Bool.{Bool, true, false, not, cond, _&&_}
 use mathlib.Core.List.{List, [], _∷_, _++_}
 use mathlib.Core.Option.{Option, none, some}
 use mathlib.Core.Logic.{_⊎_, inl, inr}
 use native.Mathlib.Omega.{arith}
 use native.Mathlib.Decide.{ℕ-discrete, decLt}
 use native.Mathlib.Nat.{le-refl}
-use lib.ListN.{length, set, getD, List·getD-eq-default}
+use lib.ListN.{length, set, List·getD-eq-default}
 use lib.Seq.{getD-set-same, getD-set-other}
-use lib.Dec.{eqb, ltb, leb·suc-zero}
-use borrow.Author.Tests.{eqb-true, eq-eqb, ne-eqb, ltb-true, ltb-false, lt-ltb, le-ltb}
+use lib.Dec.{eqb, ltb}
+use borrow.Author.Tests.{eqb-true, eq-eqb, ne-eqb, ltb-true, le-ltb}
 use Rattle.rules.specs.Limits.{Limits}
 use Rattle.rules.specs.Format.{Format, Lawful}
 use Rattle.rules.specs.Repeat.{rising}
 use Rattle.rules.specs.Mode.{UNINIT, STOPPED, NO-REQUEST, permitted}
 use Rattle.rules.specs.Reason.{E-OK, first-reason, reasons-named}
 use Rattle.rules.specs.Configuration.{controllers-byte, configuration-of, accepted-bytes}
-use Rattle.rules.specs.State.{Controller, State, valid, idle-controller, controller-at, controller-idle, controller-valid}
+use Rattle.rules.specs.State.{Controller, State, valid, idle-controller, controller-at, controller-idle}
 use Rattle.rules.specs.Notification.{Notification}
 use Rattle.rules.specs.Outcome.{Outcome, Answer, no-answer, mode, service-report, no-report, judged, full-gate, sheet-gate, state-gate, rejected}
-use Rattle.rules.specs.Services.{init, deinit, set-controller-mode, get-controller-mode, write, init-checks, set-controller-mode-checks, get-controller-mode-checks, configured-state, stopped-controller, INIT, DEINIT, SET-CONTROLLER-MODE, GET-CONTROLLER-MODE, WRITE, with-request, with-controllers, in-use}
+use Rattle.rules.specs.Services.{init, deinit, set-controller-mode, get-controller-mode, write, init-checks, set-controller-mode-checks, get-controller-mode-checks, configured-state, stopped-controller, INIT, DEINIT, SET-CONTROLLER-MODE, GET-CONTROLLER-MODE, WRITE, with-request, in-use}
 use Rattle.rules.specs.Polls.{Sweep, takes-request, entering-request, entering-bus-off, mode-one, bus-off-one, sweep-of, modes-changed, buses-off, main-function-write, main-function-read, main-function-mode, main-function-bus-off, change-mode, go-bus-off}
 use Rattle.rules.specs.Events.{tx-complete, bus-off-detected, frame-arrived, on-bus-checks, marked-bus-off, best-object, received, not-stored}
 use Rattle.history.specs.Call.{Call, Init, DeInit, SetControllerMode, GetControllerMode, Write, MainFunctionWrite, MainFunctionRead, MainFunctionMode, MainFunctionBusOff, TxComplete, BusOffDetected, FrameArrived, performed}
-use Rattle.history.specs.Trace.{Step, trace, is-accepted}
-use Rattle.history.specs.Reference.{Reference, at-first, takes-wish, entry-after, reference-after}
+use Rattle.history.specs.Trace.{trace, is-accepted}
+use Rattle.history.specs.Reference.{Reference, takes-wish, reference-after}
 use Rattle.history.specs.Claim.{ModeKept, ModesKept, asks-mode, is-mode-poll}
 use Rattle.history.proofs.Steps.{performed-valid}
-use Rattle.laws.proofs.Tests.{left, right, clash, decide, cond-map, cond-both, not-true, not-false}
+use Rattle.laws.proofs.Tests.{left, right, clash, decide, cond-map, not-true, not-false}
 use Rattle.laws.proofs.Repeat.{length-list-below, getD-list-below, replicate-default}
 use Rattle.laws.proofs.Reasons.{check-passed, judged-cases, rejected-code}
 use Rattle.laws.proofs.Validity.{Valid, valid-facts}
@@ -182,11 +182,11 @@ module _ (L : Limits) (F : Format) (c : ℕ) where
       rw (arrival-accepted s ram k frame o, arrival-keeps s ram k frame o))
 
   -- A sweep over the controllers visits controller c once.
-  mode-visit : (cfg : _) (ram : List ℕ) (k : ℕ) (w : Sweep)
+  pub mode-visit : (cfg : _) (ram : List ℕ) (k : ℕ) (w : Sweep)
       → mode-one L F cfg ram k w .controllers ≡ cond (takes-request (controller-at (w .controllers) k)) (set (w .controllers) k (entering-request (controller-at (w .controllers) k))) (w .controllers)
   mode-visit cfg ram k w = cond-map (λ (x : Sweep). x .controllers) (takes-request (controller-at (w .controllers) k)) (change-mode L F cfg ram k (controller-at (w .controllers) k) w) w
 
-  bus-off-visit : (cfg : _) (ram : List ℕ) (k : ℕ) (w : Sweep)
+  pub bus-off-visit : (cfg : _) (ram : List ℕ) (k : ℕ) (w : Sweep)
       → bus-off-one L F cfg ram k w .controllers ≡ cond (controller-at (w .controllers) k .bus-off) (set (w .controllers) k (entering-bus-off (controller-at (w .controllers) k))) (w .controllers)
   bus-off-visit cfg ram k w = cond-map (λ (x : Sweep). x .controllers) (controller-at (w .controllers) k .bus-off) (go-bus-off L F cfg ram k w) w
 

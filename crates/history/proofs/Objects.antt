@@ -8,26 +8,26 @@ use mathlib.Core.Option.{Option, none, some}
 use mathlib.Core.Logic.{_⊎_, inl, inr}
 use native.Mathlib.Omega.{arith}
 use native.Mathlib.Decide.{ℕ-discrete, decLt}
-use lib.ListN.{length, set, getD, replicate, List·getD-eq-default}
+use lib.ListN.{length, set, List·getD-eq-default}
 use lib.Seq.{getD-set-same, getD-set-other}
 use lib.Dec.{eqb, ltb}
 use borrow.Author.Tests.{eqb-true, eq-eqb, ne-eqb, ltb-true, lt-ltb, le-ltb}
 use Rattle.rules.specs.Limits.{Limits, object-start, ram-size}
 use Rattle.rules.specs.Format.{Format, Lawful}
 use Rattle.rules.specs.Repeat.{rising, all-below}
-use Rattle.rules.specs.Bytes.{splice, same-bytes}
-use Rattle.rules.specs.Reason.{E-OK, Check, first-reason, reasons-named, is-development-error}
-use Rattle.rules.specs.Notification.{Notification, tx-confirmation, tx-cancellation, rx-indication, mode-indication, bus-off-indication, development-error, data-lost}
+use Rattle.rules.specs.Bytes.{splice}
+use Rattle.rules.specs.Reason.{first-reason, reasons-named, is-development-error}
+use Rattle.rules.specs.Notification.{Notification, rx-indication, mode-indication, bus-off-indication, development-error, data-lost}
 use Rattle.rules.specs.Configuration.{Configuration, object-at, object-valid, object-place-valid, configuration-of, no-configuration}
-use Rattle.rules.specs.State.{Controller, Mailbox, State, valid, initial-state, empty-mailbox, mailbox-at, mailbox-valid, mailbox-empty, controller-at, is-started}
-use Rattle.rules.specs.Outcome.{Outcome, Answer, no-answer, mode, service-report, no-report, judged, accepted, full-gate, sheet-gate, state-gate, rejected}
-use Rattle.rules.specs.Services.{init, deinit, set-controller-mode, get-controller-mode, write, init-checks, deinit-checks, write-checks, configured-state, written-mailbox, is-sending, controller-of, some-started, zero-ram, with-mailboxes, INIT, DEINIT, SET-CONTROLLER-MODE, GET-CONTROLLER-MODE, WRITE}
+use Rattle.rules.specs.State.{Mailbox, State, valid, initial-state, empty-mailbox, mailbox-at, mailbox-valid, mailbox-empty, controller-at, is-started}
+use Rattle.rules.specs.Outcome.{Outcome, Answer, no-answer, mode, service-report, no-report, judged, accepted, full-gate, state-gate, rejected}
+use Rattle.rules.specs.Services.{init, deinit, set-controller-mode, get-controller-mode, write, init-checks, deinit-checks, write-checks, configured-state, written-mailbox, is-sending, controller-of, some-started, zero-ram, INIT, DEINIT, SET-CONTROLLER-MODE, GET-CONTROLLER-MODE, WRITE}
 use Rattle.rules.specs.Polls.{Boxes, Sweep, Closing, closing-notification, by-sent, by-stop, object-in, close, notify, confirm-one, indicate-one, cancel-one, cancel-all, change-mode, mode-one, go-bus-off, bus-off-one, takes-request, leaves-started, boxes-of, sweep-of, confirmed, indicated, modes-changed, buses-off, main-function-write, main-function-read, main-function-mode, main-function-bus-off}
-use Rattle.rules.specs.Events.{tx-complete, bus-off-detected, frame-arrived, tx-complete-checks, frame-arrived-checks, sent-mailbox, filled-mailbox, has-unsent, fits-frame, best-object, on-bus-checks, stored, received, not-stored}
+use Rattle.rules.specs.Events.{tx-complete, bus-off-detected, frame-arrived, tx-complete-checks, sent-mailbox, filled-mailbox, has-unsent, fits-frame, best-object, on-bus-checks, stored, received, not-stored}
 use Rattle.history.specs.Call.{Call, Init, DeInit, SetControllerMode, GetControllerMode, Write, MainFunctionWrite, MainFunctionRead, MainFunctionMode, MainFunctionBusOff, TxComplete, BusOffDetected, FrameArrived, performed}
-use Rattle.history.specs.Trace.{Step, trace, is-accepted}
-use Rattle.history.specs.Account.{Account, closed, held, broken, after-write, after-sent, after-confirmation, after-cancellation, after-notification, after-notifications, is-taken-by, in-force, after-call, compared, account-after, account, intact}
-use Rattle.laws.proofs.Tests.{left, right, clash, decide, cond-map, cond-both, not-true, not-false}
+use Rattle.history.specs.Trace.{trace}
+use Rattle.history.specs.Account.{Account, closed, held, broken, after-write, after-sent, after-confirmation, after-cancellation, after-notification, after-notifications, in-force, after-call, compared, account-after, account, intact}
+use Rattle.laws.proofs.Tests.{left, right, clash, decide, cond-both, not-true, not-false}
 use Rattle.laws.proofs.Repeat.{rising-keeps, all-facts, replicate-default}
 use Rattle.laws.proofs.Reasons.{check-passed, front-passed, rest-passed, judged-cases, rejected-code}
 use Rattle.laws.proofs.Validity.{Valid, valid-facts}

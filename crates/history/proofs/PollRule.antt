@@ -1,7 +1,7 @@
--- The poll rule: a sent frame whose object stays open is confirmed by the next write poll, with its own write's handle.
-use Prim.Native.Nat.{ℕ, zero, suc, _≤_, _<_}
-use mathlib.Core.Path.{_≡_, refl, ap, sym, _∙_, subst, subst⁻¹}
-use mathlib.Core.Bool.{Bool, true, false, not, cond, _&&_, _||_}
+-- The poll rule: an accepted write poll confirms a sent object with its own write's handle, if nothing closed it first.
+use Prim.Native.Nat.{ℕ, zero, suc, _<_}
+use mathlib.Core.Path.{_≡_, refl, ap, sym, _∙_, subst}
+use mathlib.Core.Bool.{Bool, true, false, cond, _&&_}
 use mathlib.Core.List.{List, [], _∷_, _++_}
 use mathlib.Core.Logic.{_⊎_, inl, inr, ⊎-elim}
 use native.Mathlib.Omega.{arith}
@@ -13,28 +13,30 @@ use Rattle.rules.specs.Limits.{Limits}
 use Rattle.rules.specs.Format.{Format, Lawful}
 use Rattle.rules.specs.Repeat.{rising}
 use Rattle.rules.specs.Bytes.{same-bytes}
-use Rattle.rules.specs.Reason.{first-reason}
+use Rattle.rules.specs.Reason.{E-OK, first-reason, return-code}
 use Rattle.rules.specs.Notification.{Notification, tx-confirmation, rx-indication, mode-indication, bus-off-indication, development-error, data-lost, tx-cancellation}
-use Rattle.rules.specs.Configuration.{Configuration, no-configuration}
-use Rattle.rules.specs.State.{Mailbox, State, valid, initial-state, mailbox-at}
+use Rattle.rules.specs.Configuration.{Configuration, object-at, configuration-of, no-configuration}
+use Rattle.rules.specs.State.{Mailbox, State, valid, initial-state, empty-mailbox, idle-controller, mailbox-at, controller-at}
 use Rattle.rules.specs.Outcome.{Outcome, full-gate}
+use Rattle.rules.specs.Services.{init, deinit, init-checks, deinit-checks}
 use Rattle.rules.specs.Polls.{Boxes, by-sent, object-in, close, confirm-one, boxes-of, confirmed, main-function-write}
 use Rattle.history.specs.Call.{Call, Init, DeInit, SetControllerMode, GetControllerMode, Write, MainFunctionWrite, MainFunctionRead, MainFunctionMode, MainFunctionBusOff, TxComplete, BusOffDetected, FrameArrived, performed}
-use Rattle.history.specs.Trace.{Step, Left, trace, left-by, is-accepted}
-use Rattle.history.specs.Account.{Account, closed, held, broken, after-write, after-sent, after-notification, after-notifications, is-taken-by, in-force, after-call, compared, account-after, account}
-use Rattle.history.specs.PollRule.{closes, closed-in, StaysOpen, Reported, SentThenPolled, Confirms}
-use Rattle.laws.proofs.Tests.{clash, decide, cond-both}
-use Rattle.laws.proofs.Repeat.{last-or-below}
+use Rattle.history.specs.Trace.{trace, left-by, is-accepted}
+use Rattle.history.specs.Account.{Account, closed, held, broken, after-sent, after-notification, after-notifications, is-taken-by, in-force, force-by, after-call, compared, account-after, account}
+use Rattle.history.specs.Reference.{Reference, at-first, reference-after, reference-by}
+use Rattle.history.specs.PollRule.{Reported, NoneCame, own-handle, own-controller, SentThenPolled, Confirms}
+use Rattle.laws.proofs.Tests.{clash, cond-both}
+use Rattle.laws.proofs.Repeat.{last-or-below, replicate-default}
 use Rattle.laws.proofs.Reasons.{judged-cases, rejected-code}
 use Rattle.laws.proofs.Validity.{valid-facts}
 use Rattle.laws.proofs.Sweeps.{boxes-above}
 use Rattle.laws.proofs.Cancelling.{confirm-step}
+use Rattle.laws.proofs.StaysValid.{initial-valid}
+use Rattle.history.proofs.Steps.{performed-valid}
+use Rattle.history.proofs.Modes.{entry, performed-follows}
 use Rattle.history.proofs.Objects.{Matches, Follows, follows-on, follows-first, unused-empty}
-
--- neither of two tests holds
-neither : (a b : Bool) → (a || b) ≡ false → (a ≡ false) × (b ≡ false)
-neither true b e = clash refl e
-neither false b e = (refl, e)
+use Rattle.history.proofs.OwnHandle.{own-handle-held}
+use Rattle.history.proofs.Quiet.{closes, closed-in, neither, performed-quiet}
 
 -- a notification that does not close the object leaves its account
 unclosed-one : (h : ℕ) (n : Notification) (x : Account) → closes h n ≡ false → after-notification h x n ≡ x
@@ -144,34 +146,71 @@ module _ (L : Limits) (F : Format) (h : ℕ) where
       go (held k b false) e q =
           ⊎-elim (λ (f : compared L F h (o .ram) (held k b true) ≡ held k b true). record { handle = k; bytes = b; is = e ∙ f }) (λ (f : compared L F h (o .ram) (held k b true) ≡ broken). fails (e ∙ f) q) (compared-held (o .ram) k b)
 
-  -- the configuration in force after a trace
-  unfoldable force-by : Configuration F → List (Step F) → Configuration F
-  force-by cfg [] = cfg
-  force-by cfg (x ∷ xs) = force-by (in-force L F cfg (x .call) (x .outcome)) xs
-
   follows-list : Lawful L F → (calls : List (Call F)) (s : State F) (ram : List ℕ) (cfg : Configuration F) (a : Account) → Follows L F h s ram cfg a
-      → Follows L F h (left-by L F calls s ram .state) (left-by L F calls s ram .ram) (force-by cfg (trace L F calls s ram)) (account L F h cfg a (trace L F calls s ram))
+      → Follows L F h (left-by L F calls s ram .state) (left-by L F calls s ram .ram) (force-by L F cfg (trace L F calls s ram)) (account L F h cfg a (trace L F calls s ram))
   unfolding left-by trace account force-by
   follows-list lawful [] s ram cfg a f = f
   follows-list lawful (call ∷ calls) s ram cfg a f = follows-list lawful calls (performed L F call s ram .state) (performed L F call s ram .ram) _ _ (follows-on L F h lawful call s ram cfg a f)
 
   account-append : (xs ys : List (Call F)) (s : State F) (ram : List ℕ) (cfg : Configuration F) (a : Account)
-      → account L F h cfg a (trace L F (xs ++ ys) s ram) ≡ account L F h (force-by cfg (trace L F xs s ram)) (account L F h cfg a (trace L F xs s ram)) (trace L F ys (left-by L F xs s ram .state) (left-by L F xs s ram .ram))
+      → account L F h cfg a (trace L F (xs ++ ys) s ram) ≡ account L F h (force-by L F cfg (trace L F xs s ram)) (account L F h cfg a (trace L F xs s ram)) (trace L F ys (left-by L F xs s ram .state) (left-by L F xs s ram .ram))
   unfolding left-by trace account force-by
   account-append [] ys s ram cfg a = refl
   account-append (x ∷ xs) ys s ram cfg a = account-append xs ys (performed L F x s ram .state) (performed L F x s ram .ram) _ _
 
-  -- calls that do not close the object keep a sent write held
-  held-list : Lawful L F → (calls : List (Call F)) (s : State F) (ram : List ℕ) (cfg : Configuration F) (k : ℕ) (b : List ℕ) → Follows L F h s ram cfg (held k b true) → StaysOpen h (trace L F calls s ram)
+  refused : (new cfg : Configuration F) (r : ℕ) → eqb r 0 ≡ false → cond (eqb (return-code r) E-OK) new cfg ≡ cfg
+  refused new cfg r e = rw (rejected-code r e)
+
+  -- a call that leaves a frame pending leaves the configuration
+  same-force : (call : Call F) (s : State F) (ram : List ℕ) (cfg : Configuration F) → mailbox-at (performed L F call s ram .state .mailboxes) h .tx-pending ≡ true
+      → in-force L F cfg call (performed L F call s ram) ≡ cfg
+  unfolding performed init deinit
+  same-force (Init sheet bytes) s ram cfg pending =
+      judged-cases F (λ (o : Outcome F). mailbox-at (o .state .mailboxes) h .tx-pending ≡ true → in-force L F cfg (Init sheet bytes) o ≡ cfg) (first-reason (full-gate L F s (length sheet) ram ++ init-checks L F s bytes)) _ _
+      (λ e p. refused (configuration-of L F bytes) cfg (first-reason (full-gate L F s (length sheet) ram ++ init-checks L F s bytes)) e)
+      (λ r p. clash p (ap (λ (m : Mailbox). m .tx-pending) (replicate-default (L .objects) h empty-mailbox))) pending
+  same-force (DeInit sheet) s ram cfg pending =
+      judged-cases F (λ (o : Outcome F). mailbox-at (o .state .mailboxes) h .tx-pending ≡ true → in-force L F cfg (DeInit sheet) o ≡ cfg) (first-reason (full-gate L F s (length sheet) ram ++ deinit-checks L F s)) _ _
+      (λ e p. refused (no-configuration L F) cfg (first-reason (full-gate L F s (length sheet) ram ++ deinit-checks L F s)) e)
+      (λ r p. clash p (ap (λ (m : Mailbox). m .tx-pending) (replicate-default (L .objects) h empty-mailbox))) pending
+  same-force (SetControllerMode sheet c asked) s ram cfg pending = refl
+  same-force (GetControllerMode sheet c) s ram cfg pending = refl
+  same-force (Write sheet i handle fits frame) s ram cfg pending = refl
+  same-force (MainFunctionWrite sheet) s ram cfg pending = refl
+  same-force (MainFunctionRead sheet) s ram cfg pending = refl
+  same-force (MainFunctionMode sheet) s ram cfg pending = refl
+  same-force (MainFunctionBusOff sheet) s ram cfg pending = refl
+  same-force (TxComplete i) s ram cfg pending = refl
+  same-force (BusOffDetected c) s ram cfg pending = refl
+  same-force (FrameArrived sheet c frame) s ram cfg pending = refl
+
+  -- calls that are none of the three keep a sent write held; c is the object's controller, and r its entry in the reference modes
+  held-list : Lawful L F → (calls : List (Call F)) (s : State F) (ram : List ℕ) (cfg : Configuration F) (k : ℕ) (b : List ℕ) (c : ℕ) (r : Reference)
+      → Follows L F h s ram cfg (held k b true) → object-at L F cfg h .controller ≡ c → r ≡ entry (controller-at (s .controllers) c) → NoneCame L F c r (trace L F calls s ram)
       → account L F h cfg (held k b true) (trace L F calls s ram) ≡ held k b true
   unfolding trace account
-  held-list lawful [] s ram cfg k b f opens = refl
-  held-list lawful (call ∷ calls) s ram cfg k b f opens =
+  held-list lawful [] s ram cfg k b c r f own e none-came = refl
+  held-list lawful (call ∷ calls) s ram cfg k b c r f own e none-came =
       let o = performed L F call s ram in
       let next = follows-on L F h lawful call s ram cfg (held k b true) f in
-      let same = held-stays s ram call o (opens .0) cfg k b (next .matches) in
+      let here = subst (λ (x : Reference). NoneCame L F c x (trace L F (call ∷ calls) s ram)) e none-came in
+      let quiet = performed-quiet L F h call s ram c (ap (λ (x : Configuration F). object-at L F x h .controller) (sym (f .force)) ∙ own) (here .0) in
+      let same = held-stays s ram call o quiet cfg k b (next .matches) in
+      let next-held : Follows L F h (o .state) (o .ram) (in-force L F cfg call o) (held k b true) = subst (λ (x : Account). Follows L F h (o .state) (o .ram) (in-force L F cfg call o) x) same next in
+      let still = ap (λ (x : Configuration F). object-at L F x h .controller) (same-force call s ram cfg (next-held .matches .0)) ∙ own in
       ap (λ (x : Account). account L F h (in-force L F cfg call o) x (trace L F calls (o .state) (o .ram))) same
-      ∙ held-list lawful calls (o .state) (o .ram) (in-force L F cfg call o) k b (subst (λ (x : Account). Follows L F h (o .state) (o .ram) (in-force L F cfg call o) x) same next) (opens .1)
+      ∙ held-list lawful calls (o .state) (o .ram) (in-force L F cfg call o) k b c (reference-after L F c (entry (controller-at (s .controllers) c)) call o)
+      next-held still (performed-follows L F c call s ram (valid-facts L F s (f .sound))) (here .1)
+
+  -- the reference modes after a list are those of the state
+  reference-list : Lawful L F → (c : ℕ) (calls : List (Call F)) (s : State F) (ram : List ℕ) (r : Reference) → valid L F s ≡ true → r ≡ entry (controller-at (s .controllers) c)
+      → reference-by L F c r (trace L F calls s ram) ≡ entry (controller-at (left-by L F calls s ram .state .controllers) c)
+  unfolding trace left-by reference-by
+  reference-list lawful c [] s ram r v e = e
+  reference-list lawful c (call ∷ calls) s ram r v e =
+      let o = performed L F call s ram in
+      reference-list lawful c calls (o .state) (o .ram) (reference-after L F c r call o) (performed-valid L F lawful call s ram v)
+      (ap (λ (x : Reference). reference-after L F c x call o) e ∙ performed-follows L F c call s ram (valid-facts L F s v))
 
   -- a write poll confirms every sent object
   confirms : (ram : List ℕ) (n : ℕ) (b : Boxes) → h < n → mailbox-at (b .mailboxes) h .tx-done ≡ true → Reported (tx-confirmation h (F .handle-in (object-in L F ram h))) (rising n (confirm-one L F ram) b .notifications)
@@ -214,28 +253,53 @@ module _ (L : Limits) (F : Format) (h : ℕ) where
           go (yes l) = l
           go (no l) = clash (f .matches .0) (ap (λ (m : Mailbox). m .tx-pending) (unused-empty L F s (valid-facts L F s (f .sound)) h (omega arith)))
 
--- a sent event that returns 0, calls that do not close the object, and then a write poll that returns 0: it reports the object
+  -- from the state in which the frame is sent: the write stays open until the poll, which reports it
+  pub record ReportedAt (cfg : Configuration F) (a : Account) (s : State F) (ram : List ℕ) (between : List (Call F)) (sheet : List ℕ) : Type 0 where
+    pub handle : ℕ
+    pub bytes : List ℕ
+    pub is-held : account L F h cfg a (trace L F (TxComplete h ∷ between) s ram) ≡ held handle bytes true
+    pub reported :
+        Reported (tx-confirmation h handle)
+        (performed L F (MainFunctionWrite sheet) (left-by L F (TxComplete h ∷ between) s ram .state) (left-by L F (TxComplete h ∷ between) s ram .ram) .notifications)
+
+  sent-reported : Lawful L F → (s : State F) (ram : List ℕ) (cfg : Configuration F) (a : Account) (between : List (Call F)) (sheet : List ℕ) → Follows L F h s ram cfg a
+      → is-accepted (performed L F (TxComplete h) s ram) ≡ true
+      → NoneCame L F (object-at L F cfg h .controller) (entry (controller-at (s .controllers) (object-at L F cfg h .controller))) (trace L F (TxComplete h ∷ between) s ram)
+      → is-accepted (performed L F (MainFunctionWrite sheet) (left-by L F (TxComplete h ∷ between) s ram .state) (left-by L F (TxComplete h ∷ between) s ram .ram)) ≡ true
+      → ReportedAt cfg a s ram between sheet
+  unfolding left-by trace account
+  sent-reported lawful s ram cfg a between sheet start sent none-came polled =
+      let c = object-at L F cfg h .controller in
+      let o = performed L F (TxComplete h) s ram in
+      let next = follows-on L F h lawful (TxComplete h) s ram cfg a start in
+      let quiet = performed-quiet L F h (TxComplete h) s ram c (ap (λ (x : Configuration F). object-at L F x h .controller) (sym (start .force))) (none-came .0) in
+      let now = sent-holds cfg a o quiet sent (next .matches) in
+      let f : Follows L F h (o .state) (o .ram) cfg (held (now .handle) (now .bytes) true) = subst (λ (x : Account). Follows L F h (o .state) (o .ram) cfg x) (now .is) next in
+      let stays = held-list lawful between (o .state) (o .ram) cfg (now .handle) (now .bytes) c (reference-after L F c (entry (controller-at (s .controllers) c)) (TxComplete h) o) f refl
+      (performed-follows L F c (TxComplete h) s ram (valid-facts L F s (start .sound))) (none-came .1) in
+      let last = follows-list lawful between (o .state) (o .ram) cfg (held (now .handle) (now .bytes) true) f in
+      let at-poll = left-by L F between (o .state) (o .ram) in
+      let g : Follows L F h (at-poll .state) (at-poll .ram) (force-by L F cfg (trace L F between (o .state) (o .ram))) (held (now .handle) (now .bytes) true) =
+      subst (λ (x : Account). Follows L F h (at-poll .state) (at-poll .ram) (force-by L F cfg (trace L F between (o .state) (o .ram))) x) stays last in
+      record {
+        handle = now .handle;
+        bytes = now .bytes;
+        is-held = ap (λ (x : Account). account L F h cfg x (trace L F between (o .state) (o .ram))) (now .is) ∙ stays;
+        reported = poll-reports (at-poll .state) (at-poll .ram) (force-by L F cfg (trace L F between (o .state) (o .ram))) (now .handle) (now .bytes) sheet g polled;
+      }
+
+-- a sent event that returns 0, no stop or bus-off poll, and then the first write poll that returns 0: it reports the object
 pub poll-rule : (L : Limits) (F : Format) → Lawful L F → (h : ℕ) (before between : List (Call F)) (ram sheet : List ℕ) → SentThenPolled L F h before between ram sheet → Confirms L F h before between ram sheet
-unfolding left-by trace account
 poll-rule L F lawful h before between ram sheet given =
-    let start = follows-list L F h lawful before (initial-state L F) ram (no-configuration L F) closed (follows-first L F h lawful ram) in
-    let cfg = force-by L F h (no-configuration L F) (trace L F before (initial-state L F) ram) in
+    let cfg = force-by L F (no-configuration L F) (trace L F before (initial-state L F) ram) in
     let a = account L F h (no-configuration L F) closed (trace L F before (initial-state L F) ram) in
     let s = left-by L F before (initial-state L F) ram .state in
     let m = left-by L F before (initial-state L F) ram .ram in
-    let o = performed L F (TxComplete h) s m in
-    let next = follows-on L F h lawful (TxComplete h) s m cfg a start in
-    let sent = sent-holds L F h cfg a o (given .open-until .0) (given .sent) (next .matches) in
-    let cfg′ = in-force L F cfg (TxComplete h) o in
-    let f : Follows L F h (o .state) (o .ram) cfg′ (held (sent .handle) (sent .bytes) true) = subst (λ (x : Account). Follows L F h (o .state) (o .ram) cfg′ x) (sent .is) next in
-    let stays = held-list L F h lawful between (o .state) (o .ram) cfg′ (sent .handle) (sent .bytes) f (given .open-until .1) in
-    let last = follows-list L F h lawful between (o .state) (o .ram) cfg′ (held (sent .handle) (sent .bytes) true) f in
-    let g = subst (λ (x : Account). Follows L F h (left-by L F between (o .state) (o .ram) .state) (left-by L F between (o .state) (o .ram) .ram) (force-by L F h cfg′ (trace L F between (o .state) (o .ram))) x) stays last in
-    record {
-      handle = sent .handle;
-      bytes = sent .bytes;
-      own-write =
-          account-append L F h before (TxComplete h ∷ between) (initial-state L F) ram (no-configuration L F) closed
-          ∙ ap (λ (x : Account). account L F h cfg′ x (trace L F between (o .state) (o .ram))) (sent .is) ∙ stays;
-      reported = poll-reports L F h _ _ _ (sent .handle) (sent .bytes) sheet g (given .polled);
-    }
+    let c = own-controller L F h before between ram sheet in
+    let start = follows-list L F h lawful before (initial-state L F) ram (no-configuration L F) closed (follows-first L F h lawful ram) in
+    let entry-is = reference-list L F h lawful c before (initial-state L F) ram at-first (initial-valid L F lawful) (ap entry (sym (replicate-default (L .controllers) c idle-controller))) in
+    let none-came = subst (λ (x : Reference). NoneCame L F c x (trace L F (TxComplete h ∷ between) s m)) entry-is (given .none-came) in
+    let result = sent-reported L F h lawful s m cfg a between sheet start (given .sent) none-came (given .polled) in
+    let own = own-handle-held L F h (before ++ (TxComplete h ∷ between)) ram (result .handle) (result .bytes) true
+    (account-append L F h before (TxComplete h ∷ between) (initial-state L F) ram (no-configuration L F) closed ∙ result .is-held) in
+    subst (λ (k : ℕ). Reported (tx-confirmation h k) (performed L F (MainFunctionWrite sheet) (left-by L F (TxComplete h ∷ between) s m .state) (left-by L F (TxComplete h ∷ between) s m .ram) .notifications)) own (result .reported)

@@ -1,18 +1,18 @@
 -- Demand 3, proved: for any limits above 0 and any lawful format.
 use Prim.Native.Nat.{ℕ, _<_}
-use mathlib.Core.Path.{_≡_, refl, ap, sym, _∙_}
+use mathlib.Core.Path.{_≡_, ap, sym}
 use mathlib.Core.Bool.{true}
 use mathlib.Core.List.{List, [], _∷_}
 use native.Mathlib.Omega.{arith}
 use Rattle.rules.specs.Limits.{Limits, notification-limit}
 use Rattle.rules.specs.Format.{Format, Lawful}
 use Rattle.rules.specs.Configuration.{no-configuration}
-use Rattle.rules.specs.State.{State, Controller, Mailbox, valid, initial-state, idle-controller, empty-mailbox}
+use Rattle.rules.specs.State.{State, valid, initial-state, idle-controller}
 use Rattle.history.specs.Call.{Call, performed}
 use Rattle.history.specs.Trace.{trace}
 use Rattle.history.specs.Account.{closed}
 use Rattle.history.specs.Reference.{at-first}
-use Rattle.history.specs.Claim.{Demand3, NotificationsBounded, history}
+use Rattle.history.specs.Claim.{Demand3, NotificationsBounded}
 use Rattle.laws.proofs.Repeat.{replicate-default}
 use Rattle.laws.proofs.StaysValid.{initial-valid}
 use Rattle.history.proofs.Steps.{performed-valid}

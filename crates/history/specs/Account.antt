@@ -85,6 +85,11 @@ module _ (L : Limits) (F : Format) where
   in-force cfg (BusOffDetected c) o = cfg
   in-force cfg (FrameArrived sheet c frame) o = cfg
 
+  -- the configuration that a trace has put in force
+  unfoldable pub force-by : Configuration F → List (Step F) → Configuration F
+  force-by cfg [] = cfg
+  force-by cfg (x ∷ xs) = force-by (in-force cfg (x .call) (x .outcome)) xs
+
   -- accepted writes to object h, and accepted sent events for it
   abbrev pub after-call : ℕ → Configuration F → Account → Call F → Outcome F → Account
   after-call h cfg a (Write sheet i handle fits frame) o =

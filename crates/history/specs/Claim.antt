@@ -9,8 +9,8 @@ use Rattle.rules.specs.Limits.{Limits, notification-limit}
 use Rattle.rules.specs.Format.{Format}
 use Rattle.rules.specs.Mode.{permitted}
 use Rattle.rules.specs.Configuration.{no-configuration}
-use Rattle.rules.specs.State.{State, controller-at, initial-state}
-use Rattle.rules.specs.Outcome.{Outcome, Answer, mode}
+use Rattle.rules.specs.State.{controller-at, initial-state}
+use Rattle.rules.specs.Outcome.{Outcome, mode}
 use Rattle.history.specs.Call.{Call, Init, DeInit, SetControllerMode, GetControllerMode, Write, MainFunctionWrite, MainFunctionRead, MainFunctionMode, MainFunctionBusOff, TxComplete, BusOffDetected, FrameArrived}
 use Rattle.history.specs.Trace.{Step, trace, is-accepted}
 use Rattle.history.specs.Account.{closed, account, intact}

@@ -2,59 +2,98 @@
 -- came first".
 use Prim.Native.Nat.{ℕ}
 use mathlib.Core.Path.{_≡_}
-use mathlib.Core.Bool.{Bool, true, false, _||_}
+use mathlib.Core.Bool.{Bool, true, false, not, cond, _&&_}
 use mathlib.Core.List.{List, [], _∷_, _++_}
 use mathlib.Core.Logic.{_⊎_}
 use lib.Dec.{eqb}
 use Rattle.rules.specs.Limits.{Limits}
 use Rattle.rules.specs.Format.{Format}
-use Rattle.rules.specs.Notification.{Notification, tx-confirmation, rx-indication, mode-indication, bus-off-indication, development-error, data-lost, tx-cancellation}
-use Rattle.rules.specs.Configuration.{no-configuration}
-use Rattle.rules.specs.State.{State, initial-state}
-use Rattle.history.specs.Call.{Call, TxComplete, MainFunctionWrite, performed}
+use Rattle.rules.specs.Mode.{STARTED}
+use Rattle.rules.specs.Notification.{Notification, tx-confirmation}
+use Rattle.rules.specs.Configuration.{object-at, no-configuration}
+use Rattle.rules.specs.State.{initial-state}
+use Rattle.rules.specs.Outcome.{Outcome}
+use Rattle.history.specs.Call.{Call, Init, DeInit, SetControllerMode, GetControllerMode, Write, MainFunctionWrite, MainFunctionRead, MainFunctionMode, MainFunctionBusOff, TxComplete, BusOffDetected, FrameArrived, performed}
 use Rattle.history.specs.Trace.{Step, Left, trace, left-by, is-accepted}
-use Rattle.history.specs.Account.{Account, closed, held, account}
+use Rattle.history.specs.Account.{is-taken-by, force-by}
+use Rattle.history.specs.Reference.{Reference, at-first, takes-wish, reference-after, reference-by}
+use Rattle.history.specs.Claim.{history}
 
--- the notification closes object h
-abbrev pub closes : ℕ → Notification → Bool
-closes h (tx-confirmation i handle) = eqb i h
-closes h (tx-cancellation i handle) = eqb i h
-closes h (rx-indication i identifier len) = false
-closes h (mode-indication c m) = false
-closes h (bus-off-indication c) = false
-closes h (development-error service error) = false
-closes h (data-lost i) = false
-
-unfoldable pub closed-in : ℕ → List Notification → Bool
-closed-in h [] = false
-closed-in h (n ∷ ns) = closes h n || closed-in h ns
-
--- no call of the trace closes object h: neither a stop, nor a bus-off poll, nor an earlier write poll
-abbrev pub StaysOpen : {F : Format} → ℕ → List (Step F) → Type 0
-StaysOpen h [] = Unit {0}
-StaysOpen h (x ∷ xs) = (closed-in h (x .outcome .notifications) ≡ false) × StaysOpen h xs
+-- "a stop": a mode poll takes the controller out of STARTED. Its wish and its mode are those of the reference modes.
+abbrev pub is-stopped : Reference → Bool
+is-stopped r = takes-wish r && (eqb (r .mode) STARTED && not (eqb (r .wish) STARTED))
 
 -- the notification stands among these
 abbrev pub Reported : Notification → List Notification → Type 0
 Reported n [] = ⊥
 Reported n (m ∷ ms) = (n ≡ m) ⊎ Reported n ms
 
-module _ (L : Limits) (F : Format) (h : ℕ) (before between : List (Call F)) (ram sheet : List ℕ) where
-  abbrev pub at-sent : Left F
-  at-sent = left-by L F before (initial-state L F) ram
+module _ (L : Limits) (F : Format) where
+  -- what may report a sent object of a controller, or take it: a write poll, "a stop or bus-off poll" of that controller
+  abbrev pub closes-sent : Reference → Call F → Bool
+  closes-sent r (MainFunctionWrite sheet) = true
+  closes-sent r (MainFunctionMode sheet) = is-stopped r
+  closes-sent r (MainFunctionBusOff sheet) = r .mark
+  closes-sent r (Init sheet bytes) = false
+  closes-sent r (DeInit sheet) = false
+  closes-sent r (SetControllerMode sheet c asked) = false
+  closes-sent r (GetControllerMode sheet c) = false
+  closes-sent r (Write sheet i handle fits frame) = false
+  closes-sent r (MainFunctionRead sheet) = false
+  closes-sent r (TxComplete i) = false
+  closes-sent r (BusOffDetected c) = false
+  closes-sent r (FrameArrived sheet c frame) = false
 
-  abbrev pub at-poll : Left F
-  at-poll = left-by L F (TxComplete h ∷ between) (at-sent .state) (at-sent .ram)
+  -- none of these came, or none that returned 0: r is the entry of controller c before the first call
+  abbrev pub NoneCame : ℕ → Reference → List (Step F) → Type 0
+  NoneCame c r [] = Unit {0}
+  NoneCame c r (x ∷ xs) =
+      ((is-accepted (x .outcome) && closes-sent r (x .call)) ≡ false) × NoneCame c (reference-after L F c r (x .call) (x .outcome)) xs
 
-  -- a sent event that returns 0, then calls that do not close the object, then a write poll that returns 0
-  pub record SentThenPolled : Type 0 where
-    pub sent : is-accepted (performed L F (TxComplete h) (at-sent .state) (at-sent .ram)) ≡ true
-    pub open-until : StaysOpen h (trace L F (TxComplete h ∷ between) (at-sent .state) (at-sent .ram))
-    pub polled : is-accepted (performed L F (MainFunctionWrite sheet) (at-poll .state) (at-poll .ram)) ≡ true
+  -- "its own write is the last accepted one to that object": the handle of object h's, k before the first
+  abbrev pub handle-after : ℕ → ℕ → Call F → Outcome F → ℕ
+  handle-after h k (Write sheet i handle fits frame) o = cond (is-accepted o && is-taken-by h (o .answer)) handle k
+  handle-after h k (Init sheet bytes) o = k
+  handle-after h k (DeInit sheet) o = k
+  handle-after h k (SetControllerMode sheet c asked) o = k
+  handle-after h k (GetControllerMode sheet c) o = k
+  handle-after h k (MainFunctionWrite sheet) o = k
+  handle-after h k (MainFunctionRead sheet) o = k
+  handle-after h k (MainFunctionMode sheet) o = k
+  handle-after h k (MainFunctionBusOff sheet) o = k
+  handle-after h k (TxComplete i) o = k
+  handle-after h k (BusOffDetected c) o = k
+  handle-after h k (FrameArrived sheet c frame) o = k
 
-  -- the poll reports the object's own write
-  pub record Confirms : Type 0 where
-    pub handle : ℕ
-    pub bytes : List ℕ
-    pub own-write : account L F h (no-configuration L F) closed (trace L F (before ++ (TxComplete h ∷ between)) (initial-state L F) ram) ≡ held handle bytes true
-    pub reported : Reported (tx-confirmation h handle) (performed L F (MainFunctionWrite sheet) (at-poll .state) (at-poll .ram) .notifications)
+  unfoldable pub own-handle : ℕ → ℕ → List (Step F) → ℕ
+  own-handle h k [] = k
+  own-handle h k (x ∷ xs) = own-handle h (handle-after h k (x .call) (x .outcome)) xs
+
+  module _ (h : ℕ) (before between : List (Call F)) (ram sheet : List ℕ) where
+    -- what the calls before the sent event leave, and those before the write poll
+    abbrev pub at-sent : Left F
+    at-sent = left-by L F before (initial-state L F) ram
+
+    abbrev pub at-poll : Left F
+    at-poll = left-by L F (TxComplete h ∷ between) (at-sent .state) (at-sent .ram)
+
+    -- the object's controller, in the configuration that the calls have put in force, and its entry in the reference modes
+    abbrev pub own-controller : ℕ
+    own-controller = object-at L F (force-by L F (no-configuration L F) (history L F before ram)) h .controller
+
+    abbrev pub own-entry : Reference
+    own-entry = reference-by L F own-controller at-first (history L F before ram)
+
+    pub record SentThenPolled : Type 0 where
+      -- "a sent event that returns 0"
+      pub sent : is-accepted (performed L F (TxComplete h) (at-sent .state) (at-sent .ram)) ≡ true
+      -- "the first write poll", "if no stop or bus-off poll came first"
+      pub none-came : NoneCame own-controller own-entry (trace L F (TxComplete h ∷ between) (at-sent .state) (at-sent .ram))
+      -- "write poll that returns 0"
+      pub polled : is-accepted (performed L F (MainFunctionWrite sheet) (at-poll .state) (at-poll .ram)) ≡ true
+
+    -- the poll "reports it": it confirms the object with its own write's handle
+    abbrev pub Confirms : Type 0
+    Confirms =
+        Reported (tx-confirmation h (own-handle h 0 (history L F (before ++ (TxComplete h ∷ between)) ram)))
+        (performed L F (MainFunctionWrite sheet) (at-poll .state) (at-poll .ram) .notifications)

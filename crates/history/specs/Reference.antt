@@ -1,7 +1,7 @@
 -- The reference modes of one controller; they are 01's mode book. "The mode book is fed each call's arguments and return code."
 use Prim.Native.Nat.{ℕ}
 use mathlib.Core.Bool.{Bool, true, false, not, cond, _&&_}
-use mathlib.Core.List.{List}
+use mathlib.Core.List.{List, [], _∷_}
 use lib.Dec.{eqb, ltb}
 use Rattle.rules.specs.Limits.{Limits}
 use Rattle.rules.specs.Format.{Format}
@@ -9,7 +9,7 @@ use Rattle.rules.specs.Mode.{UNINIT, STOPPED, NO-REQUEST}
 use Rattle.rules.specs.Configuration.{controllers-byte}
 use Rattle.rules.specs.Outcome.{Outcome}
 use Rattle.history.specs.Call.{Call, Init, DeInit, SetControllerMode, GetControllerMode, Write, MainFunctionWrite, MainFunctionRead, MainFunctionMode, MainFunctionBusOff, TxComplete, BusOffDetected, FrameArrived}
-use Rattle.history.specs.Trace.{is-accepted}
+use Rattle.history.specs.Trace.{Step, is-accepted}
 
 -- "It has a mode, a wish and a mark per controller"
 pub record Reference : Type 0 where
@@ -44,3 +44,8 @@ module _ (L : Limits) (F : Format) (c : ℕ) where
   -- "Only calls that return 0 change it."
   abbrev pub reference-after : Reference → Call F → Outcome F → Reference
   reference-after r call o = cond (is-accepted o) (entry-after r call) r
+
+  -- the entry after a trace
+  unfoldable pub reference-by : Reference → List (Step F) → Reference
+  reference-by r [] = r
+  reference-by r (x ∷ xs) = reference-by (reference-after r (x .call) (x .outcome)) xs
