@@ -1,9 +1,12 @@
--- The proofs of demand 3 and of the poll rule.
+-- The proofs of demand 3, of the poll rule, of demand 1 and of what operators ask.
 pub mod Steps
 pub mod Bounded
 pub mod Modes
 pub mod Objects
 pub mod Proved
+pub mod Untouched
 pub mod Quiet
 pub mod OwnHandle
 pub mod PollRule
+pub mod Demand1
+pub mod Operators

@@ -166,7 +166,7 @@ module _ (L : Limits) (F : Format) (c : ℕ) where
       go (some h) = refl
   arrival-keeps s ram k frame (some h) = refl
 
-  arrival-accepted : (s : State F) (ram : List ℕ) (k : ℕ) (frame : F .Frame) (o : Option ℕ) → received L F s ram k frame o .code ≡ E-OK
+  pub arrival-accepted : (s : State F) (ram : List ℕ) (k : ℕ) (frame : F .Frame) (o : Option ℕ) → received L F s ram k frame o .code ≡ E-OK
   arrival-accepted s ram k frame none = go (best-object L F s k frame true)
     where
       go : (o : Option ℕ) → not-stored L F s ram o .code ≡ E-OK

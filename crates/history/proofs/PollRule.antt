@@ -25,6 +25,7 @@ use Rattle.history.specs.Trace.{trace, left-by, is-accepted}
 use Rattle.history.specs.Account.{Account, closed, held, broken, after-sent, after-notification, after-notifications, is-taken-by, in-force, force-by, after-call, compared, account-after, account}
 use Rattle.history.specs.Reference.{Reference, at-first, reference-after, reference-by}
 use Rattle.history.specs.PollRule.{Reported, NoneCame, own-handle, own-controller, SentThenPolled, Confirms}
+use Rattle.history.specs.Operators.{closes, closed-in}
 use Rattle.laws.proofs.Tests.{clash, cond-both}
 use Rattle.laws.proofs.Repeat.{last-or-below, replicate-default}
 use Rattle.laws.proofs.Reasons.{judged-cases, rejected-code}
@@ -36,7 +37,8 @@ use Rattle.history.proofs.Steps.{performed-valid}
 use Rattle.history.proofs.Modes.{entry, performed-follows}
 use Rattle.history.proofs.Objects.{Matches, Follows, follows-on, follows-first, unused-empty}
 use Rattle.history.proofs.OwnHandle.{own-handle-held}
-use Rattle.history.proofs.Quiet.{closes, closed-in, neither, performed-quiet}
+use Rattle.history.proofs.Untouched.{neither}
+use Rattle.history.proofs.Quiet.{performed-quiet}
 
 -- a notification that does not close the object leaves its account
 unclosed-one : (h : ℕ) (n : Notification) (x : Account) → closes h n ≡ false → after-notification h x n ≡ x

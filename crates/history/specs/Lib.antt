@@ -1,7 +1,9 @@
--- Demand 3, to be read in this order, and demand 2's poll rule.
+-- Demand 3, to be read in this order; demand 2's poll rule; demand 1; and what operators ask.
 pub mod Call
 pub mod Trace
 pub mod Account
 pub mod Reference
 pub mod Claim
 pub mod PollRule
+pub mod Demand1
+pub mod Operators

@@ -1,0 +1,2 @@
+-- What the laws are about, beyond the rules themselves.
+pub mod WriteRule

@@ -1,0 +1,43 @@
+-- Demand 2's write rule: "With a sound state and sheet and memory of the required size, a write of a good identifier, with a format
+-- and length its object can carry, to a free sending object of a started controller is accepted, and no other write is."
+use Prim.Native.Nat.{ℕ, _≤_}
+use mathlib.Core.Path.{_≡_}
+use mathlib.Core.Bool.{true, false}
+use mathlib.Core.List.{List}
+use lib.ListN.{length}
+use Rattle.rules.specs.Limits.{Limits, sheet-size, ram-size}
+use Rattle.rules.specs.Format.{Format}
+use Rattle.rules.specs.Reason.{first-reason}
+use Rattle.rules.specs.Configuration.{object-at}
+use Rattle.rules.specs.State.{State, valid, mailbox-at, is-started}
+use Rattle.rules.specs.Services.{is-sending, controller-of}
+use Rattle.rules.specs.Can.{Frame, can-format, identifier-good, length-fits}
+
+-- what the demand asks of a write, for any kind of frame; the number is the sheet's length in words
+pub record WriteFits (L : Limits) (F : Format) (s : State F) (sheet : ℕ) (ram : List ℕ) (h : ℕ) (frame : F .Frame) : Type 0 where
+  -- "a sound state"
+  pub sound : valid L F s ≡ true
+  -- "sheet and memory of the required size"
+  pub sheet-holds : sheet-size L ≤ sheet
+  pub ram-whole : length ram ≡ ram-size L
+  -- what the format finds in the frame: nothing
+  pub frame-fits : first-reason (F .write-checks (object-at L F (s .configuration) h .settings) frame) ≡ 0
+  -- "sending object"
+  pub sending : is-sending L F s h ≡ true
+  -- "of a started controller"
+  pub started : is-started (controller-of L F s h) ≡ true
+  -- "free"
+  pub free : mailbox-at (s .mailboxes) h .tx-pending ≡ false
+
+-- the same for classic and FD frames, in the words of the demand
+pub record CanWriteFits (L : Limits) (s : State can-format) (sheet : ℕ) (ram : List ℕ) (h : ℕ) (frame : Frame) : Type 0 where
+  pub sound : valid L can-format s ≡ true
+  pub sheet-holds : sheet-size L ≤ sheet
+  pub ram-whole : length ram ≡ ram-size L
+  -- "a good identifier"
+  pub good-identifier : identifier-good (frame .identifier) ≡ true
+  -- "a format and length its object can carry"
+  pub length-carried : length-fits (object-at L can-format (s .configuration) h .settings .payload) (frame .identifier) (length (frame .sdu)) ≡ true
+  pub sending : is-sending L can-format s h ≡ true
+  pub started : is-started (controller-of L can-format s h) ≡ true
+  pub free : mailbox-at (s .mailboxes) h .tx-pending ≡ false
