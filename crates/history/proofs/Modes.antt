@@ -25,8 +25,8 @@ use Rattle.rules.specs.Services.{init, deinit, set-controller-mode, get-control
 use Rattle.rules.specs.Polls.{Sweep, takes-request, entering-request, entering-bus-off, mode-one, bus-off-one, sweep-of, modes-changed, buses-off, main-function-write, main-function-read, main-function-mode, main-function-bus-off, change-mode, go-bus-off}
 use Rattle.rules.specs.Events.{tx-complete, bus-off-detected, frame-arrived, on-bus-checks, marked-bus-off, best-object, received, not-stored}
 use Rattle.history.specs.Call.{Call, Init, DeInit, SetControllerMode, GetControllerMode, Write, MainFunctionWrite, MainFunctionRead, MainFunctionMode, MainFunctionBusOff, TxComplete, BusOffDetected, FrameArrived, performed}
-use Rattle.history.specs.Trace.{trace, is-accepted}
-use Rattle.history.specs.Reference.{Reference, takes-wish, reference-after}
+use Rattle.history.specs.Trace.{trace, left-by, is-accepted}
+use Rattle.history.specs.Reference.{Reference, takes-wish, entry, reference-after, reference-by}
 use Rattle.history.specs.Claim.{ModeKept, ModesKept, asks-mode, is-mode-poll}
 use Rattle.history.proofs.Steps.{performed-valid}
 use Rattle.laws.proofs.Tests.{left, right, clash, decide, cond-map, not-true, not-false}
@@ -36,10 +36,6 @@ use Rattle.laws.proofs.Validity.{Valid, valid-facts}
 use Rattle.laws.proofs.Changes.{controllers-within}
 use Rattle.laws.proofs.Sweeps.{sweep-above, sweep-below}
 use Rattle.laws.proofs.StaysValid.{configured-valid, own-controller, waiting-permitted}
-
--- the entry that a controller amounts to
-abbrev pub entry : Controller → Reference
-entry k = record { mode = k .mode; wish = k .requested-mode; mark = k .bus-off }
 
 -- an idle controller is the one at rest
 idle-is : (k : Controller) → controller-idle k ≡ true → k ≡ idle-controller
@@ -293,3 +289,13 @@ module _ (L : Limits) (F : Format) (c : ℕ) where
         modes-kept lawful calls (performed L F call s ram .state) (performed L F call s ram .ram) (reference-after L F c (entry (control s)) call (performed L F call s ram))
             (performed-valid L F lawful call s ram v) (performed-follows call s ram (valid-facts L F s v)),
       )
+
+  -- the entry after a list of calls is what the controller amounts to
+  pub reference-list : Lawful L F → (calls : List (Call F)) (s : State F) (ram : List ℕ) (r : Reference) → valid L F s ≡ true → r ≡ entry (control s)
+      → reference-by L F c r (trace L F calls s ram) ≡ entry (control (left-by L F calls s ram .state))
+  unfolding trace left-by reference-by
+  reference-list lawful [] s ram r v e = e
+  reference-list lawful (call ∷ calls) s ram r v e =
+      let o = performed L F call s ram in
+      reference-list lawful calls (o .state) (o .ram) (reference-after L F c r call o) (performed-valid L F lawful call s ram v)
+      (ap (λ (x : Reference). reference-after L F c x call o) e ∙ performed-follows call s ram (valid-facts L F s v))

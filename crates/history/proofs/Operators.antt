@@ -10,7 +10,7 @@ use Rattle.rules.specs.Configuration.{object-at}
 use Rattle.rules.specs.State.{State, valid, mailbox-at}
 use Rattle.rules.specs.Services.{with-mailboxes}
 use Rattle.rules.specs.Polls.{Boxes, boxes-of, sweep-of, confirmed, modes-changed, buses-off, polled, after-sweep, main-function-write, main-function-mode, main-function-bus-off}
-use Rattle.history.specs.Operators.{closed-in, ObjectKept, OthersKept, FrameSurvives}
+use Rattle.history.specs.Operators.{closed-in, ObjectKept, OthersKept, FrameSurvives, OthersRule, ReceivedRule}
 use Rattle.laws.proofs.Tests.{clash, decide}
 use Rattle.laws.proofs.Reasons.{judged-either}
 use Rattle.laws.proofs.Validity.{valid-facts}
@@ -28,7 +28,7 @@ module _ (L : Limits) (F : Format) (s : State F) (sheet : ℕ) (ram : List ℕ) 
       (record { mailbox = refl; bytes = refl; not-closed = refl })
       (λ r. record { mailbox = rw e (u .same); bytes = refl; not-closed = u .unclosed })
 
-  pub others-kept : OthersKept L F s sheet ram h
+  others-kept : OthersKept L F s sheet ram h
   unfolding main-function-mode main-function-bus-off
   others-kept =
       let c = object-at L F (s .configuration) h .controller in
@@ -37,7 +37,7 @@ module _ (L : Limits) (F : Format) (s : State F) (sheet : ℕ) (ram : List ℕ) 
         bus-off-poll = λ e. poll-keeps (after-sweep L F s (buses-off L F s ram)) (buses-off L F s ram .boxes) refl (buses-off-leave L F h s ram c refl e);
       }
 
-  pub frame-survives : valid L F s ≡ true → mailbox-at (s .mailboxes) h .rx-full ≡ true → FrameSurvives L F s sheet ram h
+  frame-survives : valid L F s ≡ true → mailbox-at (s .mailboxes) h .rx-full ≡ true → FrameSurvives L F s sheet ram h
   unfolding main-function-write main-function-mode main-function-bus-off confirmed modes-changed buses-off
   frame-survives sound full =
       let m = mailbox-at (s .mailboxes) h in
@@ -56,3 +56,9 @@ module _ (L : Limits) (F : Format) (s : State F) (sheet : ℕ) (ram : List ℕ) 
       not-done (inl e) =
           let flags = mailbox-flags L F s (valid-facts L F s sound) h in
           clash (flags .done-pending e) (flags .full-free full)
+
+pub others-rule : (L : Limits) (F : Format) → OthersRule L F
+others-rule = others-kept
+
+pub received-rule : (L : Limits) (F : Format) → ReceivedRule L F
+received-rule = frame-survives

@@ -16,15 +16,15 @@ use Rattle.rules.specs.Bytes.{same-bytes}
 use Rattle.rules.specs.Reason.{E-OK, first-reason, return-code}
 use Rattle.rules.specs.Notification.{Notification, tx-confirmation, rx-indication, mode-indication, bus-off-indication, development-error, data-lost, tx-cancellation}
 use Rattle.rules.specs.Configuration.{Configuration, object-at, configuration-of, no-configuration}
-use Rattle.rules.specs.State.{Mailbox, State, valid, initial-state, empty-mailbox, idle-controller, mailbox-at, controller-at}
+use Rattle.rules.specs.State.{Mailbox, State, initial-state, empty-mailbox, idle-controller, mailbox-at, controller-at}
 use Rattle.rules.specs.Outcome.{Outcome, full-gate}
 use Rattle.rules.specs.Services.{init, deinit, init-checks, deinit-checks}
 use Rattle.rules.specs.Polls.{Boxes, by-sent, object-in, close, confirm-one, boxes-of, confirmed, main-function-write}
 use Rattle.history.specs.Call.{Call, Init, DeInit, SetControllerMode, GetControllerMode, Write, MainFunctionWrite, MainFunctionRead, MainFunctionMode, MainFunctionBusOff, TxComplete, BusOffDetected, FrameArrived, performed}
 use Rattle.history.specs.Trace.{trace, left-by, is-accepted}
 use Rattle.history.specs.Account.{Account, closed, held, broken, after-sent, after-notification, after-notifications, is-taken-by, in-force, force-by, after-call, compared, account-after, account}
-use Rattle.history.specs.Reference.{Reference, at-first, reference-after, reference-by}
-use Rattle.history.specs.PollRule.{Reported, NoneCame, own-handle, own-controller, SentThenPolled, Confirms}
+use Rattle.history.specs.Reference.{entry, Reference, at-first, reference-after}
+use Rattle.history.specs.PollRule.{Reported, NoneCame, own-handle, own-controller, PollRule}
 use Rattle.history.specs.Operators.{closes, closed-in}
 use Rattle.laws.proofs.Tests.{clash, cond-both}
 use Rattle.laws.proofs.Repeat.{last-or-below, replicate-default}
@@ -33,8 +33,7 @@ use Rattle.laws.proofs.Validity.{valid-facts}
 use Rattle.laws.proofs.Sweeps.{boxes-above}
 use Rattle.laws.proofs.Cancelling.{confirm-step}
 use Rattle.laws.proofs.StaysValid.{initial-valid}
-use Rattle.history.proofs.Steps.{performed-valid}
-use Rattle.history.proofs.Modes.{entry, performed-follows}
+use Rattle.history.proofs.Modes.{performed-follows, reference-list}
 use Rattle.history.proofs.Objects.{Matches, Follows, follows-on, follows-first, unused-empty}
 use Rattle.history.proofs.OwnHandle.{own-handle-held}
 use Rattle.history.proofs.Untouched.{neither}
@@ -204,16 +203,6 @@ module _ (L : Limits) (F : Format) (h : ℕ) where
       ∙ held-list lawful calls (o .state) (o .ram) (in-force L F cfg call o) k b c (reference-after L F c (entry (controller-at (s .controllers) c)) call o)
       next-held still (performed-follows L F c call s ram (valid-facts L F s (f .sound))) (here .1)
 
-  -- the reference modes after a list are those of the state
-  reference-list : Lawful L F → (c : ℕ) (calls : List (Call F)) (s : State F) (ram : List ℕ) (r : Reference) → valid L F s ≡ true → r ≡ entry (controller-at (s .controllers) c)
-      → reference-by L F c r (trace L F calls s ram) ≡ entry (controller-at (left-by L F calls s ram .state .controllers) c)
-  unfolding trace left-by reference-by
-  reference-list lawful c [] s ram r v e = e
-  reference-list lawful c (call ∷ calls) s ram r v e =
-      let o = performed L F call s ram in
-      reference-list lawful c calls (o .state) (o .ram) (reference-after L F c r call o) (performed-valid L F lawful call s ram v)
-      (ap (λ (x : Reference). reference-after L F c x call o) e ∙ performed-follows L F c call s ram (valid-facts L F s v))
-
   -- a write poll confirms every sent object
   confirms : (ram : List ℕ) (n : ℕ) (b : Boxes) → h < n → mailbox-at (b .mailboxes) h .tx-done ≡ true → Reported (tx-confirmation h (F .handle-in (object-in L F ram h))) (rising n (confirm-one L F ram) b .notifications)
   unfolding rising
@@ -291,7 +280,7 @@ module _ (L : Limits) (F : Format) (h : ℕ) where
       }
 
 -- a sent event that returns 0, no stop or bus-off poll, and then the first write poll that returns 0: it reports the object
-pub poll-rule : (L : Limits) (F : Format) → Lawful L F → (h : ℕ) (before between : List (Call F)) (ram sheet : List ℕ) → SentThenPolled L F h before between ram sheet → Confirms L F h before between ram sheet
+pub poll-rule : (L : Limits) (F : Format) → Lawful L F → PollRule L F
 poll-rule L F lawful h before between ram sheet given =
     let cfg = force-by L F (no-configuration L F) (trace L F before (initial-state L F) ram) in
     let a = account L F h (no-configuration L F) closed (trace L F before (initial-state L F) ram) in
@@ -299,7 +288,7 @@ poll-rule L F lawful h before between ram sheet given =
     let m = left-by L F before (initial-state L F) ram .ram in
     let c = own-controller L F h before between ram sheet in
     let start = follows-list L F h lawful before (initial-state L F) ram (no-configuration L F) closed (follows-first L F h lawful ram) in
-    let entry-is = reference-list L F h lawful c before (initial-state L F) ram at-first (initial-valid L F lawful) (ap entry (sym (replicate-default (L .controllers) c idle-controller))) in
+    let entry-is = reference-list L F c lawful before (initial-state L F) ram at-first (initial-valid L F lawful) (ap entry (sym (replicate-default (L .controllers) c idle-controller))) in
     let none-came = subst (λ (x : Reference). NoneCame L F c x (trace L F (TxComplete h ∷ between) s m)) entry-is (given .none-came) in
     let result = sent-reported L F h lawful s m cfg a between sheet start (given .sent) none-came (given .polled) in
     let own = own-handle-held L F h (before ++ (TxComplete h ∷ between)) ram (result .handle) (result .bytes) true

@@ -1,4 +1,4 @@
--- Demand 3, proved: for any limits above 0 and any lawful format.
+-- Demand 3 and the whole entry of the reference modes, proved: for any limits above 0 and any lawful format.
 use Prim.Native.Nat.{ℕ, _<_}
 use mathlib.Core.Path.{_≡_, ap, sym}
 use mathlib.Core.Bool.{true}
@@ -11,13 +11,13 @@ use Rattle.rules.specs.State.{State, valid, initial-state, idle-controller}
 use Rattle.history.specs.Call.{Call, performed}
 use Rattle.history.specs.Trace.{trace}
 use Rattle.history.specs.Account.{closed}
-use Rattle.history.specs.Reference.{at-first}
-use Rattle.history.specs.Claim.{Demand3, NotificationsBounded}
+use Rattle.history.specs.Reference.{entry, at-first}
+use Rattle.history.specs.Claim.{NotificationsBounded, HistoryRule, ReferenceRule}
 use Rattle.laws.proofs.Repeat.{replicate-default}
 use Rattle.laws.proofs.StaysValid.{initial-valid}
 use Rattle.history.proofs.Steps.{performed-valid}
 use Rattle.history.proofs.Bounded.{performed-bounded}
-use Rattle.history.proofs.Modes.{entry, modes-kept}
+use Rattle.history.proofs.Modes.{modes-kept, reference-list}
 use Rattle.history.proofs.Objects.{account-intact, follows-first}
 
 notifications-bounded : (L : Limits) (F : Format) → Lawful L F → 0 < notification-limit L → (calls : List (Call F)) (s : State F) (ram : List ℕ) → valid L F s ≡ true → NotificationsBounded L F (trace L F calls s ram)
@@ -29,7 +29,7 @@ notifications-bounded L F lawful above (call ∷ calls) s ram v = (
 )
 
 -- every list of calls, and every first memory
-pub demand-3 : (L : Limits) (F : Format) → Lawful L F → 0 < L .controllers → (calls : List (Call F)) (ram : List ℕ) → Demand3 L F calls ram
+pub demand-3 : (L : Limits) (F : Format) → Lawful L F → 0 < L .controllers → HistoryRule L F
 demand-3 L F lawful above calls ram =
     let s = initial-state L F in
     let v = initial-valid L F lawful in
@@ -38,3 +38,8 @@ demand-3 L F lawful above calls ram =
       modes = λ c. modes-kept L F c lawful calls s ram at-first v (ap entry (sym (replicate-default (L .controllers) c idle-controller)));
       bounded = notifications-bounded L F lawful (omega arith) calls s ram v;
     }
+
+-- mode, waiting request and mark of every controller are those of the reference modes
+pub reference-rule : (L : Limits) (F : Format) → Lawful L F → ReferenceRule L F
+reference-rule L F lawful c calls ram =
+    sym (reference-list L F c lawful calls (initial-state L F) ram at-first (initial-valid L F lawful) (ap entry (sym (replicate-default (L .controllers) c idle-controller))))

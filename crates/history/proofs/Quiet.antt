@@ -17,13 +17,13 @@ use Rattle.rules.specs.Services.{init, deinit, set-controller-mode, get-control
 use Rattle.rules.specs.Polls.{Boxes, indicate-one, boxes-of, sweep-of, indicated, modes-changed, buses-off, main-function-write, main-function-read, main-function-mode, main-function-bus-off}
 use Rattle.rules.specs.Events.{tx-complete, bus-off-detected, frame-arrived, best-object, received, not-stored}
 use Rattle.history.specs.Call.{Call, Init, DeInit, SetControllerMode, GetControllerMode, Write, MainFunctionWrite, MainFunctionRead, MainFunctionMode, MainFunctionBusOff, TxComplete, BusOffDetected, FrameArrived, performed}
+use Rattle.history.specs.Reference.{entry}
 use Rattle.history.specs.Trace.{is-accepted}
 use Rattle.history.specs.PollRule.{closes-sent}
 use Rattle.history.specs.Operators.{closed-in, is-stopping}
 use Rattle.laws.proofs.Tests.{clash, cond-both}
 use Rattle.laws.proofs.Repeat.{rising-keeps}
 use Rattle.laws.proofs.Reasons.{judged-cases, judged-either}
-use Rattle.history.proofs.Modes.{entry}
 use Rattle.history.proofs.Untouched.{Untouched, at-first, still-open, modes-untouched, buses-off-untouched}
 
 module _ (L : Limits) (F : Format) (h : ℕ) where

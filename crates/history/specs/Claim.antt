@@ -12,9 +12,9 @@ use Rattle.rules.specs.Configuration.{no-configuration}
 use Rattle.rules.specs.State.{controller-at, initial-state}
 use Rattle.rules.specs.Outcome.{Outcome, mode}
 use Rattle.history.specs.Call.{Call, Init, DeInit, SetControllerMode, GetControllerMode, Write, MainFunctionWrite, MainFunctionRead, MainFunctionMode, MainFunctionBusOff, TxComplete, BusOffDetected, FrameArrived}
-use Rattle.history.specs.Trace.{Step, trace, is-accepted}
+use Rattle.history.specs.Trace.{Step, trace, left-by, is-accepted}
 use Rattle.history.specs.Account.{closed, account, intact}
-use Rattle.history.specs.Reference.{Reference, at-first, takes-wish, reference-after}
+use Rattle.history.specs.Reference.{Reference, at-first, takes-wish, entry, reference-after, reference-by}
 
 module _ (L : Limits) (F : Format) where
   -- the call is a question for controller c's mode
@@ -80,3 +80,11 @@ module _ (L : Limits) (F : Format) where
     pub objects : (h : ℕ) → intact (account L F h (no-configuration L F) closed (history calls ram)) ≡ true
     pub modes : (c : ℕ) → ModesKept c at-first (history calls ram)
     pub bounded : NotificationsBounded (history calls ram)
+
+  abbrev pub HistoryRule : Type 0
+  HistoryRule = (calls : List (Call F)) (ram : List ℕ) → Demand3 calls ram
+
+  -- the whole entry of the book, and not its mode alone: after any list of calls a controller's mode, waiting request and mark are the
+  -- mode, the wish and the mark of its entry
+  abbrev pub ReferenceRule : Type 0
+  ReferenceRule = (c : ℕ) (calls : List (Call F)) (ram : List ℕ) → entry (controller-at (left-by L F calls (initial-state L F) ram .state .controllers) c) ≡ reference-by L F c at-first (history calls ram)

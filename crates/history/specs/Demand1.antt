@@ -1,17 +1,19 @@
--- Demand 1, about a refusal: "A refusal changes neither driver state nor mailbox memory, and writes on the notice sheet only the one
--- error record that 01 gives it, or nothing."
+-- Demand 1: "A refusal changes neither driver state nor mailbox memory, and writes on the notice sheet only the one error record that
+-- 01 gives it, or nothing." And 01: "A sound state leads only to sound states."
 use Prim.Native.Nat.{ℕ}
 use mathlib.Core.Path.{_≡_}
-use mathlib.Core.Bool.{cond}
+use mathlib.Core.Bool.{true, false, cond}
 use mathlib.Core.List.{List, [], _∷_}
 use mathlib.Core.Option.{Option, none, some}
 use lib.Dec.{ltb}
+use Rattle.rules.specs.Limits.{Limits}
 use Rattle.rules.specs.Format.{Format}
 use Rattle.rules.specs.Notification.{Notification, development-error}
-use Rattle.rules.specs.State.{State}
+use Rattle.rules.specs.State.{State, valid}
 use Rattle.rules.specs.Outcome.{Outcome}
 use Rattle.rules.specs.Services.{INIT, DEINIT, SET-CONTROLLER-MODE, GET-CONTROLLER-MODE, WRITE}
-use Rattle.history.specs.Call.{Call, Init, DeInit, SetControllerMode, GetControllerMode, Write, MainFunctionWrite, MainFunctionRead, MainFunctionMode, MainFunctionBusOff, TxComplete, BusOffDetected, FrameArrived}
+use Rattle.history.specs.Call.{Call, Init, DeInit, SetControllerMode, GetControllerMode, Write, MainFunctionWrite, MainFunctionRead, MainFunctionMode, MainFunctionBusOff, TxComplete, BusOffDetected, FrameArrived, performed}
+use Rattle.history.specs.Trace.{is-accepted}
 
 -- "a service writes one record of kind 5, an event none", "Reasons from 32 up write nothing."
 abbrev pub error-record : Option ℕ → ℕ → List Notification
@@ -39,3 +41,12 @@ module _ (F : Format) where
     pub state-kept : o .state ≡ s
     pub ram-kept : o .ram ≡ ram
     pub error-told : o .notifications ≡ error-record (service-number call) (o .reason)
+
+module _ (L : Limits) (F : Format) where
+  -- every call that does not return 0, from any state and with any memory
+  abbrev pub RefusalRule : Type 0
+  RefusalRule = (call : Call F) (s : State F) (ram : List ℕ) → is-accepted (performed L F call s ram) ≡ false → Refused F call s ram (performed L F call s ram)
+
+  -- every call from a sound state, with any memory
+  abbrev pub ValidRule : Type 0
+  ValidRule = (call : Call F) (s : State F) (ram : List ℕ) → valid L F s ≡ true → valid L F (performed L F call s ram .state) ≡ true

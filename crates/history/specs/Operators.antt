@@ -1,13 +1,13 @@
 -- What operators ask of the polls: whose objects they leave alone.
 use Prim.Native.Nat.{ℕ}
 use mathlib.Core.Path.{_≡_}
-use mathlib.Core.Bool.{Bool, false, _&&_, _||_}
+use mathlib.Core.Bool.{Bool, true, false, _&&_, _||_}
 use mathlib.Core.List.{List, [], _∷_}
 use lib.Dec.{eqb}
 use Rattle.rules.specs.Limits.{Limits}
 use Rattle.rules.specs.Format.{Format}
 use Rattle.rules.specs.Notification.{Notification, tx-confirmation, rx-indication, mode-indication, bus-off-indication, development-error, data-lost, tx-cancellation}
-use Rattle.rules.specs.State.{Controller, State, mailbox-at}
+use Rattle.rules.specs.State.{Controller, State, valid, mailbox-at}
 use Rattle.rules.specs.Outcome.{Outcome}
 use Rattle.rules.specs.Services.{controller-of}
 use Rattle.rules.specs.Polls.{object-in, takes-request, leaves-started, main-function-write, main-function-mode, main-function-bus-off}
@@ -47,3 +47,12 @@ module _ (L : Limits) (F : Format) (s : State F) (sheet : ℕ) (ram : List ℕ) 
     pub write-poll : ObjectKept (main-function-write L F s sheet ram)
     pub mode-poll : ObjectKept (main-function-mode L F s sheet ram)
     pub bus-off-poll : ObjectKept (main-function-bus-off L F s sheet ram)
+
+module _ (L : Limits) (F : Format) where
+  -- from any state, with any sheet and memory
+  abbrev pub OthersRule : Type 0
+  OthersRule = (s : State F) (sheet : ℕ) (ram : List ℕ) (h : ℕ) → OthersKept L F s sheet ram h
+
+  -- from a sound state in which object h is full
+  abbrev pub ReceivedRule : Type 0
+  ReceivedRule = (s : State F) (sheet : ℕ) (ram : List ℕ) (h : ℕ) → valid L F s ≡ true → mailbox-at (s .mailboxes) h .rx-full ≡ true → FrameSurvives L F s sheet ram h

@@ -97,3 +97,7 @@ module _ (L : Limits) (F : Format) where
     Confirms =
         Reported (tx-confirmation h (own-handle h 0 (history L F (before ++ (TxComplete h ∷ between)) ram)))
         (performed L F (MainFunctionWrite sheet) (at-poll .state) (at-poll .ram) .notifications)
+
+  -- the rule, for any object, any calls before the sent event and any between it and the poll, from any first memory
+  abbrev pub PollRule : Type 0
+  PollRule = (h : ℕ) (before between : List (Call F)) (ram sheet : List ℕ) → SentThenPolled h before between ram sheet → Confirms h before between ram sheet

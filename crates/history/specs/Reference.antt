@@ -7,6 +7,7 @@ use Rattle.rules.specs.Limits.{Limits}
 use Rattle.rules.specs.Format.{Format}
 use Rattle.rules.specs.Mode.{UNINIT, STOPPED, NO-REQUEST}
 use Rattle.rules.specs.Configuration.{controllers-byte}
+use Rattle.rules.specs.State.{Controller}
 use Rattle.rules.specs.Outcome.{Outcome}
 use Rattle.history.specs.Call.{Call, Init, DeInit, SetControllerMode, GetControllerMode, Write, MainFunctionWrite, MainFunctionRead, MainFunctionMode, MainFunctionBusOff, TxComplete, BusOffDetected, FrameArrived}
 use Rattle.history.specs.Trace.{Step, is-accepted}
@@ -20,6 +21,10 @@ pub record Reference : Type 0 where
 -- "at first 0, none, clear"
 abbrev pub at-first : Reference
 at-first = record { mode = UNINIT; wish = NO-REQUEST; mark = false }
+
+-- the entry that a controller of the driver state amounts to
+abbrev pub entry : Controller → Reference
+entry k = record { mode = k .mode; wish = k .requested-mode; mark = k .bus-off }
 
 -- "Mode poll: each unmarked controller with a wish takes it as its mode, and the wish ends."
 abbrev pub takes-wish : Reference → Bool

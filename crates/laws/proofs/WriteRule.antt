@@ -16,7 +16,7 @@ use Rattle.rules.specs.Outcome.{Outcome, full-gate}
 use Rattle.rules.specs.Services.{write, write-checks, is-sending, controller-of}
 use Rattle.rules.specs.Can.{Frame, can-format, identifier-good, length-fits}
 use Rattle.rules.specs.Can.{write-checks as can-checks}
-use Rattle.laws.specs.WriteRule.{WriteFits, CanWriteFits}
+use Rattle.laws.specs.WriteRule.{WriteFits, CanWriteFits, WriteRule, CanWriteRule}
 use Rattle.laws.proofs.Tests.{left, right, clash, not-false}
 use Rattle.laws.proofs.Reasons.{check-passed, front-passed, reason-append, judged-cases, judged-accepts, rejected-code}
 use Rattle.laws.proofs.Validity.{valid-facts}
@@ -74,9 +74,9 @@ module _ (L : Limits) (F : Format) (lawful : Lawful L F) (s : State F) (sheet : 
       }
 
   -- accepted exactly if it fits
-  pub write-rule : (write L F s sheet ram h handle frame .code ≡ E-OK) ↔ WriteFits L F s sheet ram h frame
+  fits-exactly : (write L F s sheet ram h handle frame .code ≡ E-OK) ↔ WriteFits L F s sheet ram h frame
   unfolding write reason
-  write-rule = (only, every)
+  fits-exactly = (only, every)
     where
       only : write L F s sheet ram h handle frame .code ≡ E-OK → WriteFits L F s sheet ram h frame
       only = judged-cases F (λ (o : Outcome F). o .code ≡ E-OK → WriteFits L F s sheet ram h frame) (first-reason (full-gate L F s sheet ram ++ write-checks L F s h frame)) _ _
@@ -86,9 +86,11 @@ module _ (L : Limits) (F : Format) (lawful : Lawful L F) (s : State F) (sheet : 
       every : WriteFits L F s sheet ram h frame → write L F s sheet ram h handle frame .code ≡ E-OK
       every w = ap (λ (o : Outcome F). o .code) (judged-accepts F _ _ _ (no-reason w))
 
+pub write-rule : (L : Limits) (F : Format) → Lawful L F → WriteRule L F
+write-rule = fits-exactly
+
 -- the same for classic and FD frames, in the words of the demand
-pub can-write-rule : (L : Limits) → Lawful L can-format → (s : State can-format) (sheet : ℕ) (ram : List ℕ) (h handle : ℕ) (frame : Frame)
-    → (write L can-format s sheet ram h handle frame .code ≡ E-OK) ↔ CanWriteFits L s sheet ram h frame
+pub can-write-rule : (L : Limits) → Lawful L can-format → CanWriteRule L
 unfolding first-reason reasons-named
 can-write-rule L lawful s sheet ram h handle frame =
     let rule = write-rule L can-format lawful s sheet ram h handle frame in

@@ -4,13 +4,14 @@ use Prim.Native.Nat.{ℕ, _≤_}
 use mathlib.Core.Path.{_≡_}
 use mathlib.Core.Bool.{true, false}
 use mathlib.Core.List.{List}
+use mathlib.Core.Logic.{_↔_}
 use lib.ListN.{length}
 use Rattle.rules.specs.Limits.{Limits, sheet-size, ram-size}
 use Rattle.rules.specs.Format.{Format}
-use Rattle.rules.specs.Reason.{first-reason}
+use Rattle.rules.specs.Reason.{E-OK, first-reason}
 use Rattle.rules.specs.Configuration.{object-at}
 use Rattle.rules.specs.State.{State, valid, mailbox-at, is-started}
-use Rattle.rules.specs.Services.{is-sending, controller-of}
+use Rattle.rules.specs.Services.{is-sending, controller-of, write}
 use Rattle.rules.specs.Can.{Frame, can-format, identifier-good, length-fits}
 
 -- what the demand asks of a write, for any kind of frame; the number is the sheet's length in words
@@ -41,3 +42,13 @@ pub record CanWriteFits (L : Limits) (s : State can-format) (sheet : ℕ) (ram :
   pub sending : is-sending L can-format s h ≡ true
   pub started : is-started (controller-of L can-format s h) ≡ true
   pub free : mailbox-at (s .mailboxes) h .tx-pending ≡ false
+
+-- ".. is accepted, and no other write is"
+abbrev pub WriteRule : Limits → Format → Type 0
+WriteRule L F =
+    (s : State F) (sheet : ℕ) (ram : List ℕ) (h handle : ℕ) (frame : F .Frame) → (write L F s sheet ram h handle frame .code ≡ E-OK) ↔ WriteFits L F s sheet ram h frame
+
+abbrev pub CanWriteRule : Limits → Type 0
+CanWriteRule L =
+    (s : State can-format) (sheet : ℕ) (ram : List ℕ) (h handle : ℕ) (frame : Frame)
+    → (write L can-format s sheet ram h handle frame .code ≡ E-OK) ↔ CanWriteFits L s sheet ram h frame
