@@ -9,7 +9,7 @@ use Rattle.answers.specs.declared.reply.WriteReply.{WriteReply}
 use Rattle.answers.specs.declared.reply.ArrivalReply as arrivals
 use Rattle.answers.specs.declared.reply.ArrivalReply.{ArrivalReply}
 
--- "GetControllerMode answers the mode, and 0 with a no."
+-- GetControllerMode "answers the mode, and 0 with a no"
 abbrev pub mode-reason : ModeReply → ℕ
 mode-reason (modes.the-variants.Mode m) = 0
 mode-reason (modes.the-variants.Rejected r) = reason-of r

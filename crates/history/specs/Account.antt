@@ -22,7 +22,7 @@ pub data Account : Type 0 where
   -- something happened that must not
   broken : Account
 
--- "writes and closing notices alternate, write first"
+-- "the writes accepted under demand 2 and the closing notices alternate, write first"
 abbrev pub after-write : ℕ → List ℕ → Account → Account
 after-write handle bytes closed = held handle bytes false
 after-write handle bytes (held k b sent) = broken

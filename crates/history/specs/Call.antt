@@ -1,4 +1,4 @@
--- The calls of a list. 01, "The words of demand 3": "Its list may hold each service, each poll and each bench event."
+-- The calls of a list. 01, "The words of demand 3": "Its list may hold each service .., each poll and each bench event".
 use Prim.Native.Nat.{ℕ, _<_, _^_}
 use mathlib.Core.List.{List}
 use lib.ListN.{length}
@@ -10,7 +10,7 @@ use Rattle.rules.specs.Services as services
 use Rattle.rules.specs.Polls as polls
 use Rattle.rules.specs.Events as events
 
--- "Each call brings its own inputs and, where it takes one, its own sheet, of any length and content." The sheet comes first.
+-- "Each call brings its own inputs and, where it takes one, its own sheet, of any length and content". The sheet comes first.
 pub data Call (F : Format) : Type 0 where
   -- configuration bytes
   Init : List ℕ → List ℕ → Call F

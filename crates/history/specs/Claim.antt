@@ -72,7 +72,7 @@ module _ (L : Limits) (F : Format) where
   history calls ram = trace L F calls (initial-state L F) ram
 
   -- "Take any list of services, polls and bench events, refused ones included, from the sound state before initialisation and any
-  -- mailbox memory."
+  -- mailbox memory".
   pub record Demand3 (calls : List (Call F)) (ram : List ℕ) : Type 0 where
     -- "For each object, the writes accepted under demand 2 and the closing notices alternate, write first, and each notice carries its
     -- own write's handle. From a write until its notice the object's 72 bytes are exactly those that the write laid down. Between a

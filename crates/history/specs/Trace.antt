@@ -1,4 +1,4 @@
--- A list of calls as it runs; a trace is 01's night.
+-- A list of calls as it runs: a night of the demands.
 use Prim.Native.Nat.{ℕ}
 use mathlib.Core.Bool.{Bool}
 use mathlib.Core.List.{List, [], _∷_}

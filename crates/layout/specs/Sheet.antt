@@ -1,4 +1,4 @@
--- A notification on the sheet, whole or not at all. 01: "A call writes its records from word 0 on, four words each. Words after them
+-- A notification on the sheet, whole or not at all. 01: "A call writes its records from word 0 on, four words each .. Words after them
 -- keep their values."
 use Prim.Native.Nat.{ℕ, _+_, _*_}
 use mathlib.Core.Path.{_≡_}

@@ -1,2 +1,3 @@
--- Laws that several proofs of this crate cite.
+-- Laws that several proofs of this crate cite, and the law that the view forgets nothing.
 pub mod Laws
+pub mod Injective

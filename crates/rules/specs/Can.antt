@@ -114,7 +114,7 @@ settings-unused s = eqb (s .payload) 0 && eqb (s .padding) 0 && eqb (s .code) 0 
 abbrev pub settings-of : List ℕ → Settings
 settings-of r = record { payload = getD r 2 0; padding = getD r 3 0; code = number (part 4 4 r); mask = number (part 8 4 r) }
 
--- "43 48 42, version 00 01"
+-- "the three bytes 43 48 42 .., version 00 01"
 abbrev pub header : List ℕ
 header = 0x43 ∷ 0x48 ∷ 0x42 ∷ 0x00 ∷ 0x01 ∷ []
 

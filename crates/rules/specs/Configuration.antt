@@ -59,7 +59,7 @@ module _ (L : Limits) (F : Format) where
   abbrev pub object-record : List ℕ → ℕ → List ℕ
   object-record bytes h = part (header-size + F .record-size * h) (F .record-size) bytes
 
-  -- "controller, kind (0 sending, 1 receiving)", then the settings
+  -- "controller .., kind (0 sending, 1 receiving)", then the settings
   abbrev pub object-of : List ℕ → ObjectConfig F
   object-of r = record { controller = getD r 0 0; receiving = eqb (getD r 1 0) 1; settings = F .settings-of r }
 
@@ -78,7 +78,7 @@ module _ (L : Limits) (F : Format) where
         objects = list-below (L .objects) (λ h. cond (ltb h (objects-byte bytes)) (object-of (object-record bytes h)) unused-object);
       }
 
-  -- "the three bytes 43 48 42, version 00 01, controllers, objects n, a zero byte"
+  -- "the three bytes 43 48 42 .., version 00 01, controllers .., objects n .., a zero byte"
   abbrev pub header-valid : List ℕ → Bool
   header-valid bytes = same-bytes (take (length (F .header)) bytes) (F .header) && eqb (getD bytes 7 0) 0
 

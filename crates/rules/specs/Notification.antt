@@ -33,6 +33,6 @@ unfoldable pub all-words : List Notification → List ℕ
 all-words [] = []
 all-words (n ∷ ns) = words n ++ all-words ns
 
--- "A call writes its records from word 0 on, four words each. Words after them keep their values."
+-- "A call writes its records from word 0 on, four words each .. Words after them keep their values."
 abbrev pub sheet-after : List Notification → List ℕ → List ℕ
 sheet-after ns sheet = splice 0 (all-words ns) sheet

@@ -96,22 +96,20 @@ module _ (L : Limits) (F : Format) where
   -- "leaving STARTED cancels and frees every occupied object, rising, before the mode record"
   abbrev pub change-mode : Configuration F → List ℕ → ℕ → Controller → Sweep → Sweep
   change-mode cfg ram c k w =
-      record {
-        controllers = set (w .controllers) c (entering-request k);
-        boxes = notify (mode-indication c (k .requested-mode)) (cond (leaves-started k) (cancel-all cfg ram c (w .boxes)) (w .boxes));
-      }
+      let closed = cond (leaves-started k) (cancel-all cfg ram c (w .boxes)) (w .boxes) in
+      let told = notify (mode-indication c (k .requested-mode)) closed in
+      record { controllers = set (w .controllers) c (entering-request k); boxes = told }
 
   abbrev pub mode-one : Configuration F → List ℕ → ℕ → Sweep → Sweep
   mode-one cfg ram c w =
       cond (takes-request (controller-at (w .controllers) c)) (change-mode cfg ram c (controller-at (w .controllers) c) w) w
 
-  -- "its occupied objects are cancelled and freed, the bus-off record follows"
+  -- "its occupied objects are cancelled and freed, the bus-off record follows, the mode becomes STOPPED"
   abbrev pub go-bus-off : Configuration F → List ℕ → ℕ → Sweep → Sweep
   go-bus-off cfg ram c w =
-      record {
-        controllers = set (w .controllers) c (entering-bus-off (controller-at (w .controllers) c));
-        boxes = notify (bus-off-indication c) (cancel-all cfg ram c (w .boxes));
-      }
+      let closed = cancel-all cfg ram c (w .boxes) in
+      let told = notify (bus-off-indication c) closed in
+      record { controllers = set (w .controllers) c (entering-bus-off (controller-at (w .controllers) c)); boxes = told }
 
   -- "Bus-off poll: for each marked controller, rising"
   abbrev pub bus-off-one : Configuration F → List ℕ → ℕ → Sweep → Sweep

@@ -99,7 +99,7 @@ module _ (L : Limits) (F : Format) where
       (rejected F (service-report DEINIT) no-answer s ram)
       (accepted F no-answer (initial-state L F) zero-ram [])
 
-  -- "Set: 5, 4 (controller not below the configured count), 6 (unknown mode or forbidden move)."
+  -- "Set: 5, 4 (controller not below the configured count, here and everywhere), 6 (unknown mode or forbidden move)."
   abbrev pub set-controller-mode-checks : State F → ℕ → ℕ → List Check
   set-controller-mode-checks s c asked =
       CAN-E-UNINIT if not (s .initialised)
@@ -125,7 +125,7 @@ module _ (L : Limits) (F : Format) where
       (rejected F (service-report GET-CONTROLLER-MODE) (mode 0) s ram)
       (accepted F (mode (controller-at (s .controllers) c .mode)) s ram [])
 
-  -- "Write: 5, 2 (not a configured sending object), 3, 34, 35, 36."
+  -- "Write: 5, 2 (not a configured sending object), 3 (classic above 8, FD above 64, or FD to a payload of 8), 34, 35, 36."
   abbrev pub write-checks : State F → ℕ → F .Frame → List Check
   write-checks s h frame =
       (CAN-E-UNINIT if not (s .initialised) ∷ CAN-E-PARAM-HANDLE if not (is-sending s h) ∷ [])

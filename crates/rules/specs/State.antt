@@ -94,7 +94,7 @@ module _ (L : Limits) (F : Format) where
   abbrev pub nothing-in-use : Configuration F → Bool
   nothing-in-use c = eqb (c .controller-count) 0 && eqb (c .object-count) 0
 
-  -- "uninitialised with everything else at rest; or its configuration is one that Init accepts, .. and unused places are at rest"
+  -- "uninitialised with everything else at rest ..; or its configuration is one that Init accepts, .. and unused places are at rest"
   unfoldable pub valid : State F → Bool
   valid s =
       has-places s

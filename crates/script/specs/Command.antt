@@ -108,7 +108,7 @@ named names.Show line = show-of line
 named names.State line = State
 named names.Unknown line = Unreadable UnknownCommand
 
--- "a word too many or too few": word n of a line is missing where it is empty
+-- a line may have a word too few or too many: word n of a line is missing where it is empty
 abbrev pub is-missing : ℕ → List ℕ → Bool
 is-missing n line = eqb (length (word n line)) 0
 

@@ -1,4 +1,4 @@
--- How a sweep over the objects or the controllers goes on. 01: "A call writes its records from word 0 on, four words each. Words after
+-- How a sweep over the objects or the controllers goes on. 01: "A call writes its records from word 0 on, four words each .. Words after
 -- them keep their values."
 use Prim.Native.Nat.{ℕ, _+_, _*_, _≤_, _<_}
 use mathlib.Core.Path.{_≡_}

@@ -16,6 +16,6 @@ sending-checks initialised in-use o = CAN-E-UNINIT if not initialised ∷ CAN-E-
 abbrev pub free-checks : Controller → Mailbox → List Check
 free-checks k m = NOT-STARTED if not (is-started k) ∷ OBJECT-BUSY if m .tx-pending ∷ []
 
--- "Write: 5, 2, 3, 34, 35, 36."
+-- "Write: 5, 2 .., 3 .., 34, 35, 36."
 abbrev pub write-checks : Bool → Bool → ObjectConfig can-format → Controller → Mailbox → Frame → List Check
 write-checks initialised in-use o k m frame = sending-checks initialised in-use o ++ (can.write-checks (o .settings) frame ++ free-checks k m)

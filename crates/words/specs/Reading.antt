@@ -41,7 +41,7 @@ unprefixed w = cond (is-prefixed w) (drop 2 w) w
 abbrev pub base-of : List ℕ → ℕ
 base-of w = cond (is-prefixed w) 16 10
 
--- "Numbers are decimal or 0x hexadecimal, up to 4,294,967,295"
+-- numbers are decimal, or hexadecimal after 0x, and go up to this one
 abbrev pub largest : ℕ
 largest = 2 ^ 32 - 1
 
@@ -54,7 +54,7 @@ number-or bad w =
 abbrev pub number-of : List ℕ → Reading
 number-of w = number-or NotANumber w
 
--- "identifiers are hexadecimal, up to 8 digits, with or without 0x"
+-- identifiers are hexadecimal, with or without 0x, and have up to so many digits
 abbrev pub identifier-digits : ℕ
 identifier-digits = 8
 
@@ -63,7 +63,7 @@ identifier-of w =
     cond (not (all-digits 16 (unprefixed w))) (Unreadable NotAnIdentifier)
     (cond (ltb identifier-digits (length (unprefixed w))) (Unreadable IdentifierTooLong) (Value (value 16 (unprefixed w))))
 
--- "bytes are hex digits in pairs": the byte that two digits say
+-- bytes are hexadecimal digits in pairs: the byte that two digits say
 unfoldable pub pair : ℕ → ℕ → ℕ
 pair high low = (digit high * 16 + digit low) % 256
 
@@ -74,11 +74,11 @@ pair-at w i = pair (getD w (2 * i) 0) (getD w (2 * i + 1) 0)
 unfoldable pub hex-pairs : List ℕ → List ℕ
 hex-pairs w = list-below (length w / 2) (pair-at w)
 
--- "- for none"
+-- the word - stands for no bytes
 abbrev pub is-none : List ℕ → Bool
 is-none w = same-bytes w (45 ∷ [])
 
--- "lines up to 8,192 bytes"
+-- the most bytes of a line
 abbrev pub longest-line : ℕ
 longest-line = 8192
 
@@ -105,7 +105,7 @@ unfoldable pub limited-to : ℕ → Trouble → Reading → Reading
 limited-to limit trouble (Value n) = cond (ltb limit n) (Unreadable trouble) (Value n)
 limited-to limit trouble (Unreadable t) = Unreadable t
 
--- "A handle above 65,535, a sheet above 4,096 words and a memory above 16,384 bytes are such lines."
+-- the largest handle, words of a sheet and bytes of a memory that a line may ask for
 abbrev pub largest-handle : ℕ
 largest-handle = 65535
 
@@ -115,7 +115,7 @@ largest-sheet = 4096
 abbrev pub largest-memory : ℕ
 largest-memory = 16384
 
--- "STARTED, STOPPED, SLEEP or a number"
+-- a mode is STARTED, STOPPED, SLEEP or a number
 unfoldable pub mode-of : List ℕ → Reading
 mode-of w =
     cond (same-bytes w (83 ∷ 84 ∷ 65 ∷ 82 ∷ 84 ∷ 69 ∷ 68 ∷ [])) (Value 1)

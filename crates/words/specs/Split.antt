@@ -1,4 +1,4 @@
--- "words are separated by spaces or tabs", "# starts a comment".
+-- Words are separated by spaces or tabs, and # starts a comment.
 use Prim.Native.Nat.{ℕ, zero, suc, _+_, _-_}
 use mathlib.Core.Bool.{Bool, not, cond, _&&_, _||_}
 use mathlib.Core.List.{List, [], _∷_}

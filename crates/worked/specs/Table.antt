@@ -1,5 +1,5 @@
--- 01, "Played by hand": the lines with * as one table, proved by computation. The lines are one sequence from the state before
--- initialisation; a column shows the mode of controller 0 and the 72 bytes of object 0 after each call.
+-- 01, "Played by hand": the lines with * as one table, proved by computation. "P1 to P11 are one sequence", from the state before
+-- initialisation; P10 has no * and stands here because it belongs to the sequence.
 use Prim.Native.Nat.{ℕ}
 use mathlib.Core.Path.{_≡_, refl}
 use mathlib.Core.List.{List, [], _∷_, _++_, map}
@@ -19,9 +19,8 @@ use Rattle.rules.specs.Events.{tx-complete, bus-off-detected, frame-arrived, be
 use Rattle.rules.specs.Can.{Frame, can-format, next-length, lengths-below, object-bytes}
 use Rattle.rules.specs.Chip.{chip}
 
--- one line of the paper, and what it says of its call
+-- what a line says of one call: its return code, reason, answer and records, and after it the mode of controller 0 and the bytes of object 0
 pub record Line : Type 0 where
-  pub name : ℕ
   pub code : ℕ
   pub reason : ℕ
   pub answer : Answer
@@ -29,14 +28,19 @@ pub record Line : Type 0 where
   pub mode : ℕ
   pub object-0 : List ℕ
 
-pub record Call : Type 0 where
-  pub line : ℕ
-  pub run : State can-format → List ℕ → Outcome can-format
+-- a call by the rules, handed the state and the memory
+abbrev pub Call : Type 0
+Call = State can-format → List ℕ → Outcome can-format
 
-pub seen : ℕ → Outcome can-format → Line
-seen name o =
+-- a call, and the line that it must give
+pub record Row : Type 0 where
+  pub call : Call
+  pub line : Line
+
+-- what the rules say of a call
+pub seen : Outcome can-format → Line
+seen o =
     record {
-      name = name;
       code = o .code;
       reason = o .reason;
       answer = o .answer;
@@ -46,9 +50,11 @@ seen name o =
     }
 
 -- each call is handed the state and the memory that the last one left
-pub played : List Call → State can-format → List ℕ → List Line
+pub played : List Row → State can-format → List ℕ → List Line
 played [] s ram = []
-played (c ∷ cs) s ram = let o = c .run s ram in seen (c .line) o ∷ played cs (o .state) (o .ram)
+played (r ∷ rs) s ram = let o = r .call s ram in seen o ∷ played rs (o .state) (o .ram)
+
+-- The calls
 
 sheet : ℕ
 sheet = sheet-size chip
@@ -60,60 +66,45 @@ K =
     ∷ 0x00 ∷ 0x00 ∷ 0x40 ∷ 0xCC ∷ 0x00 ∷ 0x00 ∷ 0x00 ∷ 0x00 ∷ 0x00 ∷ 0x00 ∷ 0x00 ∷ 0x00
     ∷ 0x00 ∷ 0x01 ∷ 0x08 ∷ 0x00 ∷ 0x00 ∷ 0x00 ∷ 0x01 ∷ 0x20 ∷ 0x00 ∷ 0x00 ∷ 0x07 ∷ 0xFF ∷ []
 
--- "object 0, handle 7, 40000123, bytes 01 to 09"
-write-P5 : State can-format → List ℕ → Outcome can-format
+init-K : Call
+init-K s ram = init chip can-format s sheet ram K
+
+-- "write object 0, handle 7, 40000123, bytes 01 to 09"
+write-P5 : Call
 write-P5 s ram =
     write chip can-format s sheet ram 0 7
     (record { identifier = 0x40000123; sdu = 0x01 ∷ 0x02 ∷ 0x03 ∷ 0x04 ∷ 0x05 ∷ 0x06 ∷ 0x07 ∷ 0x08 ∷ 0x09 ∷ [] })
 
-ask : ℕ → State can-format → List ℕ → Outcome can-format
+ask : ℕ → Call
 ask mode s ram = set-controller-mode chip can-format s sheet ram 0 mode
 
-sent : State can-format → List ℕ → Outcome can-format
+sent : Call
 sent s ram = tx-complete chip can-format s ram 0
 
-arrive : ℕ → State can-format → List ℕ → Outcome can-format
-arrive identifier s ram = frame-arrived chip can-format s sheet ram 0 (record { identifier = identifier; sdu = replicate 8 0x55 })
+bus-off : Call
+bus-off s ram = bus-off-detected chip can-format s ram 0
 
-write-poll : State can-format → List ℕ → Outcome can-format
+-- 8 bytes
+arrived : ℕ → Call
+arrived identifier s ram = frame-arrived chip can-format s sheet ram 0 (record { identifier = identifier; sdu = replicate 8 0x55 })
+
+write-poll : Call
 write-poll s ram = main-function-write chip can-format s sheet ram
 
-mode-poll : State can-format → List ℕ → Outcome can-format
+read-poll : Call
+read-poll s ram = main-function-read chip can-format s sheet ram
+
+mode-poll : Call
 mode-poll s ram = main-function-mode chip can-format s sheet ram
 
-call : ℕ → (State can-format → List ℕ → Outcome can-format) → Call
-call n f = record { line = n; run = f }
+bus-off-poll : Call
+bus-off-poll s ram = main-function-bus-off chip can-format s sheet ram
 
-pub calls : List Call
-calls =
-    call 1 (λ s ram. init chip can-format s sheet ram K)
-    ∷ call 2 write-P5
-    ∷ call 3 (ask STARTED)
-    ∷ call 3 mode-poll
-    ∷ call 4 (ask STARTED)
-    ∷ call 5 write-P5
-    ∷ call 6 write-P5
-    ∷ call 7 sent
-    ∷ call 7 write-poll
-    ∷ call 7 write-poll
-    ∷ call 8 write-P5
-    ∷ call 8 (ask STOPPED)
-    ∷ call 8 mode-poll
-    ∷ call 8 sent
-    ∷ call 9 (ask STARTED)
-    ∷ call 9 mode-poll
-    ∷ call 9 (arrive 0x00000120)
-    ∷ call 9 (arrive 0x00000120)
-    ∷ call 9 (λ s ram. main-function-read chip can-format s sheet ram)
-    ∷ call 10 (arrive 0x40000120)
-    ∷ call 11 (λ s ram. bus-off-detected chip can-format s ram 0)
-    ∷ call 11 write-P5
-    ∷ call 11 (λ s ram. main-function-bus-off chip can-format s sheet ram)
-    ∷ []
+-- The lines
 
 -- object 0 before the first write
 blank : List ℕ
-blank = replicate (chip .object-size) 0
+blank = replicate 72 0
 
 -- "memory begins 40 00 01 23 0C 09 00 07 01 02 03 04 05 06 07 08 09 CC CC CC, then 52 zeros"
 laid-down : List ℕ
@@ -122,39 +113,58 @@ laid-down =
     ∷ 0x01 ∷ 0x02 ∷ 0x03 ∷ 0x04 ∷ 0x05 ∷ 0x06 ∷ 0x07 ∷ 0x08 ∷ 0x09 ∷ 0xCC ∷ 0xCC ∷ 0xCC ∷ [])
     ++ replicate 52 0
 
-line : ℕ → ℕ → ℕ → Answer → List (List ℕ) → ℕ → List ℕ → Line
-line name code reason answer records mode object-0 =
-    record { name = name; code = code; reason = reason; answer = answer; records = records; mode = mode; object-0 = object-0 }
+-- a record of the paper: its four words
+words-are : ℕ → ℕ → ℕ → ℕ → List ℕ
+words-are a b c d = a ∷ b ∷ c ∷ d ∷ []
 
--- line, return code, reason, answer, records, mode of controller 0, bytes of object 0
-pub table : List Line
+-- return code, reason, answer, records; then the mode of controller 0, and the bytes of object 0
+line : ℕ → ℕ → Answer → List (List ℕ) → ℕ → List ℕ → Line
+line code reason answer records mode object-0 =
+    record { code = code; reason = reason; answer = answer; records = records; mode = mode; object-0 = object-0 }
+
+infix 70 _gives_
+_gives_ : Call → Line → Row
+c gives l = record { call = c; line = l }
+
+pub table : List Row
 table =
-    line 1 0 0 no-answer [] 2 blank
-    ∷ line 2 1 35 no-answer [] 2 blank
-    ∷ line 3 0 0 no-answer [] 2 blank
-    ∷ line 3 0 0 no-answer ((3 ∷ 0 ∷ 1 ∷ 0 ∷ []) ∷ []) 1 blank
-    ∷ line 4 1 6 no-answer ((5 ∷ 3 ∷ 6 ∷ 0 ∷ []) ∷ []) 1 blank
-    ∷ line 5 0 0 (taken-by 0) [] 1 laid-down
-    ∷ line 6 2 36 no-answer [] 1 laid-down
-    ∷ line 7 0 0 no-answer [] 1 laid-down
-    ∷ line 7 0 0 no-answer ((1 ∷ 0 ∷ 7 ∷ 0 ∷ []) ∷ []) 1 laid-down
-    ∷ line 7 0 0 no-answer [] 1 laid-down
-    ∷ line 8 0 0 (taken-by 0) [] 1 laid-down
-    ∷ line 8 0 0 no-answer [] 1 laid-down
-    ∷ line 8 0 0 no-answer ((7 ∷ 0 ∷ 7 ∷ 0 ∷ []) ∷ (3 ∷ 0 ∷ 2 ∷ 0 ∷ []) ∷ []) 2 laid-down
-    ∷ line 8 1 38 no-answer [] 2 laid-down
-    ∷ line 9 0 0 no-answer [] 2 laid-down
-    ∷ line 9 0 0 no-answer ((3 ∷ 0 ∷ 1 ∷ 0 ∷ []) ∷ []) 1 laid-down
-    ∷ line 9 0 0 (stored-in 1) [] 1 laid-down
-    ∷ line 9 0 0 lost ((6 ∷ 1 ∷ 1 ∷ 0 ∷ []) ∷ []) 1 laid-down
-    ∷ line 9 0 0 no-answer ((2 ∷ 1 ∷ 288 ∷ 8 ∷ []) ∷ []) 1 laid-down
-    ∷ line 10 0 0 unwanted [] 1 laid-down
-    ∷ line 11 0 0 no-answer [] 1 laid-down
-    ∷ line 11 0 0 (taken-by 0) [] 1 laid-down
-    ∷ line 11 0 0 no-answer ((7 ∷ 0 ∷ 7 ∷ 0 ∷ []) ∷ (4 ∷ 0 ∷ 0 ∷ 0 ∷ []) ∷ []) 2 laid-down
+    -- P1* "K accepted, mode 2."
+    init-K gives line 0 0 no-answer [] 2 blank
+    -- P2* "write as P5 at once: 35."
+    ∷ write-P5 gives line 1 35 no-answer [] 2 blank
+    -- P3* "ask STARTED, mode poll: 3,0,1,0."
+    ∷ ask STARTED gives line 0 0 no-answer [] 2 blank
+    ∷ mode-poll gives line 0 0 no-answer (words-are 3 0 1 0 ∷ []) 1 blank
+    -- P4* "ask STARTED again: 6, record 5,3,6,0."
+    ∷ ask STARTED gives line 1 6 no-answer (words-are 5 3 6 0 ∷ []) 1 blank
+    -- P5* "write object 0, handle 7, 40000123, bytes 01 to 09: memory begins 40 00 01 23 .."
+    ∷ write-P5 gives line 0 0 (taken-by 0) [] 1 laid-down
+    -- P6* "again: code 2, reason 36."
+    ∷ write-P5 gives line 2 36 no-answer [] 1 laid-down
+    -- P7* "sent, write poll: 1,0,7,0; the next poll writes nothing."
+    ∷ sent gives line 0 0 no-answer [] 1 laid-down
+    ∷ write-poll gives line 0 0 no-answer (words-are 1 0 7 0 ∷ []) 1 laid-down
+    ∷ write-poll gives line 0 0 no-answer [] 1 laid-down
+    -- P8* "write as P5, ask STOPPED, mode poll, all records: 7,0,7,0, 3,0,2,0. Sent then: 38."
+    ∷ write-P5 gives line 0 0 (taken-by 0) [] 1 laid-down
+    ∷ ask STOPPED gives line 0 0 no-answer [] 1 laid-down
+    ∷ mode-poll gives line 0 0 no-answer (words-are 7 0 7 0 ∷ words-are 3 0 2 0 ∷ []) 2 laid-down
+    ∷ sent gives line 1 38 no-answer [] 2 laid-down
+    -- P9* "ask STARTED, mode poll; arrived 00000120, 8 bytes, twice: object 1, then 6,1,1,0. Read poll: 2,1,288,8."
+    ∷ ask STARTED gives line 0 0 no-answer [] 2 laid-down
+    ∷ mode-poll gives line 0 0 no-answer (words-are 3 0 1 0 ∷ []) 1 laid-down
+    ∷ arrived 0x00000120 gives line 0 0 (stored-in 1) [] 1 laid-down
+    ∷ arrived 0x00000120 gives line 0 0 lost (words-are 6 1 1 0 ∷ []) 1 laid-down
+    ∷ read-poll gives line 0 0 no-answer (words-are 2 1 288 8 ∷ []) 1 laid-down
+    -- P10 "arrived 40000120, 8 bytes: unwanted."
+    ∷ arrived 0x40000120 gives line 0 0 unwanted [] 1 laid-down
+    -- P11* "bus-off, write as P5, bus-off poll: 7,0,7,0, 4,0,0,0, mode 2."
+    ∷ bus-off gives line 0 0 no-answer [] 1 laid-down
+    ∷ write-P5 gives line 0 0 (taken-by 0) [] 1 laid-down
+    ∷ bus-off-poll gives line 0 0 no-answer (words-are 7 0 7 0 ∷ words-are 4 0 0 0 ∷ []) 2 laid-down
     ∷ []
 
--- The table is what the definitions give. The first memory has the right size and holds 0xAA everywhere, which Init clears.
-pub worked-lines : played calls (initial-state chip can-format) (replicate (ram-size chip) 0xAA) ≡ table
-unfolding played seen sheet K write-P5 ask sent arrive write-poll mode-poll call calls blank laid-down line table rising all-below list-below better best-below big-endian number splice same-bytes words first-reason return-code configuration-of accepted-bytes valid judged init set-controller-mode write main-function-write main-function-read main-function-mode main-function-bus-off cancel-all confirmed indicated modes-changed buses-off tx-complete bus-off-detected frame-arrived best-object next-length lengths-below object-bytes
+-- Played by the rules, each call gives its line. The first memory has the right size and holds 0xAA everywhere, which Init clears.
+pub worked-lines : played table (initial-state chip can-format) (replicate (ram-size chip) 0xAA) ≡ map (λ r. r .line) table
+unfolding played seen sheet K init-K write-P5 ask sent bus-off arrived write-poll read-poll mode-poll bus-off-poll blank laid-down words-are line _gives_ table rising all-below list-below better best-below big-endian number splice same-bytes words first-reason return-code configuration-of accepted-bytes valid judged init set-controller-mode write main-function-write main-function-read main-function-mode main-function-bus-off cancel-all confirmed indicated modes-changed buses-off tx-complete bus-off-detected frame-arrived best-object next-length lengths-below object-bytes
 worked-lines = refl
