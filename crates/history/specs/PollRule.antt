@@ -29,7 +29,7 @@ Reported n [] = ⊥
 Reported n (m ∷ ms) = (n ≡ m) ⊎ Reported n ms
 
 module _ (L : Limits) (F : Format) where
-  -- what may report a sent object of a controller, or take it: a write poll, "a stop or bus-off poll" of that controller
+  -- what may report a sent object of a controller, or take it: a write poll, and a "stop or bus-off poll" of that controller
   abbrev pub closes-sent : Reference → Call F → Bool
   closes-sent r (MainFunctionWrite sheet) = true
   closes-sent r (MainFunctionMode sheet) = is-stopped r

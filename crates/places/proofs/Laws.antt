@@ -22,6 +22,7 @@ use Rattle.places.specs.declared.controller.Controller.{Controller}
 use Rattle.places.specs.declared.object.ObjectConfig.{ObjectConfig}
 use Rattle.places.specs.declared.mailbox.Mailbox.{Mailbox}
 use Rattle.places.specs.View.{view-controller, view-object, view-mailbox}
+use Rattle.places.specs.Rest.{idle-controller, unused-object, empty-mailbox}
 use Rattle.places.specs.Range.{all-in-use}
 use Rattle.places.specs.Place.{is-started-at}
 
@@ -118,15 +119,6 @@ by-use n count p₁ p₂ q₁ q₂ =
     ∙ sym (all-below-and n (λ i. cond (ltb i count) (p₁ i) (q₁ i)) (λ i. cond (ltb i count) (p₂ i) (q₂ i)))
 
 -- What stands at a place, as the rules see it. Past the last place both sides read a place at rest.
-abbrev pub idle-controller : Controller
-idle-controller = record { mode = 0; «requested_mode» = 0; «bus_off» = false }
-
-abbrev pub unused-object : ObjectConfig
-unused-object = record { controller = 0; receiving = false; payload = 0; padding = 0; code = 0; mask = 0 }
-
-abbrev pub empty-mailbox : Mailbox
-empty-mailbox = record { «tx_pending» = false; «tx_done» = false; «rx_full» = false }
-
 pub controller-seen : (ks : List Controller) (c : ℕ) → rules.controller-at (map view-controller ks) c ≡ view-controller (getD ks c idle-controller)
 controller-seen ks c = List·getD-map view-controller ks c idle-controller
 

@@ -1,3 +1,4 @@
 pub mod View
+pub mod Rest
 pub mod Range
 pub mod Place

@@ -19,7 +19,8 @@ use Rattle.laws.proofs.Bounds.{length-snoc}
 use Rattle.layout.specs.Sheet.{words-each}
 use Rattle.places.specs.View.{view-mailbox}
 use Rattle.places.specs.declared.mailbox.Mailbox.{Mailbox}
-use Rattle.places.proofs.Laws.{mailbox-seen, empty-mailbox, map-set}
+use Rattle.places.specs.Rest.{empty-mailbox}
+use Rattle.places.proofs.Laws.{mailbox-seen, map-set}
 use Rattle.sweeps.specs.declared.close.Step.{Step}
 use Rattle.sweeps.specs.Swept.{Told, Visited, Swept, boxes-from}
 

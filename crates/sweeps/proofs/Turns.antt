@@ -22,7 +22,8 @@ use Rattle.layout.specs.Sheet.{words-each}
 use Rattle.places.specs.View.{view-controller, view-mailbox}
 use Rattle.places.specs.declared.controller.Controller.{Controller}
 use Rattle.places.specs.declared.mailbox.Mailbox.{Mailbox}
-use Rattle.places.proofs.Laws.{controller-seen, idle-controller, map-set}
+use Rattle.places.specs.Rest.{idle-controller}
+use Rattle.places.proofs.Laws.{controller-seen, map-set}
 use Rattle.sweeps.specs.declared.close.Boxes as code
 use Rattle.sweeps.specs.declared.turn.Turn.{Turn}
 use Rattle.sweeps.specs.Swept.{Swept, Spare, Turned, SweptAll, boxes-from, sweep-from, cancelled-if, reported}

@@ -5,7 +5,8 @@ use Prim.Native.Nat.{_≤_}
 use mathlib.Core.Path.{sym, _∙_}
 use lib.ListN.{length}
 use Rattle.places.specs.View.{view-controller}
-use Rattle.places.proofs.Laws.{controller-seen, idle-controller, past-last}
+use Rattle.places.specs.Rest.{idle-controller}
+use Rattle.places.proofs.Laws.{controller-seen, past-last}
 use Rattle.places.proofs.at.controller_at.Statement.{statement}
 use Rattle.places.proofs.at.controller_at.Tie as tie
 

@@ -5,7 +5,8 @@ use Prim.Native.Nat.{_≤_}
 use mathlib.Core.Path.{sym, _∙_}
 use lib.ListN.{length}
 use Rattle.places.specs.View.{view-mailbox}
-use Rattle.places.proofs.Laws.{mailbox-seen, empty-mailbox, past-last}
+use Rattle.places.specs.Rest.{empty-mailbox}
+use Rattle.places.proofs.Laws.{mailbox-seen, past-last}
 use Rattle.places.proofs.at.mailbox_at.Statement.{statement}
 use Rattle.places.proofs.at.mailbox_at.Tie as tie
 

@@ -5,7 +5,8 @@ use Prim.Native.Nat.{_≤_}
 use mathlib.Core.Path.{sym, _∙_}
 use lib.ListN.{length}
 use Rattle.places.specs.View.{view-object}
-use Rattle.places.proofs.Laws.{object-seen, unused-object, past-last}
+use Rattle.places.specs.Rest.{unused-object}
+use Rattle.places.proofs.Laws.{object-seen, past-last}
 use Rattle.places.proofs.at.object_at.Statement.{statement}
 use Rattle.places.proofs.at.object_at.Tie as tie
 

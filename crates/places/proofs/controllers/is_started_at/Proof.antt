@@ -6,7 +6,8 @@ use mathlib.Core.Path.{sym, ap, _∙_}
 use lib.ListN.{length, List·getD-eq-default}
 use Rattle.rules.specs.State.{is-started}
 use Rattle.places.specs.View.{view-controller}
-use Rattle.places.proofs.Laws.{controller-seen, idle-controller}
+use Rattle.places.specs.Rest.{idle-controller}
+use Rattle.places.proofs.Laws.{controller-seen}
 use Rattle.places.proofs.controllers.is_started_at.Statement.{statement}
 use Rattle.places.proofs.controllers.is_started_at.Tie as tie
 

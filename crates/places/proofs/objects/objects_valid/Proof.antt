@@ -11,7 +11,8 @@ use Rattle.rules.specs.Repeat.{all-below}
 use Rattle.rules.specs.Chip.{chip}
 use Rattle.places.specs.View.{view-controller, view-object, view-mailbox}
 use Rattle.places.specs.Place.{place-valid-at, place-unused-at}
-use Rattle.places.proofs.Laws.{all-below-more, in-use-all, all-unused, unused-none, unused-more, all-places, object-seen, mailbox-seen, started-seen, unused-object, length-of-map}
+use Rattle.places.specs.Rest.{unused-object}
+use Rattle.places.proofs.Laws.{all-below-more, in-use-all, all-unused, unused-none, unused-more, all-places, object-seen, mailbox-seen, started-seen, length-of-map}
 use Rattle.places.proofs.objects.objects_valid.Statement.{statement}
 use Rattle.places.proofs.objects.objects_valid.Tie as tie
 
