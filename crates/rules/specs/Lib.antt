@@ -71,7 +71,7 @@
 --
 -- The words of demand 3 (crates/history/specs)
 --   the list                     List of Call                         history runs it; a Step is a call with its outcome
---   its own write                held                                 an object's Account while a write is open
+--   its own write                held, own-handle                     an object's Account while a write is open; the handle of the last one
 --   mode book                    Reference                            the reference modes of a controller; reference-after feeds it
 pub mod Limits
 pub mod Repeat
