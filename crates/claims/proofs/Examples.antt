@@ -1,0 +1,80 @@
+-- The hypotheses of the theorems can be met: a history in which each of them speaks of something.
+use Prim.Native.Nat.{ℕ}
+use mathlib.Core.Path.{_≡_, refl}
+use mathlib.Core.Bool.{true}
+use mathlib.Core.List.{List, [], _∷_, _++_}
+use lib.ListN.{replicate}
+use native.Mathlib.Omega.{arith}
+use Rattle.rules.specs.Limits.{sheet-size, ram-size}
+use Rattle.rules.specs.Repeat.{rising, all-below, list-below, better, best-below}
+use Rattle.rules.specs.Bytes.{big-endian, number, splice, same-bytes}
+use Rattle.rules.specs.Mode.{STARTED, STOPPED}
+use Rattle.rules.specs.Reason.{first-reason, return-code}
+use Rattle.rules.specs.Configuration.{configuration-of, accepted-bytes}
+use Rattle.rules.specs.State.{State, valid, initial-state, mailbox-at}
+use Rattle.rules.specs.Outcome.{judged}
+use Rattle.rules.specs.Services.{init, set-controller-mode, write}
+use Rattle.rules.specs.Polls.{main-function-write, main-function-read, main-function-mode, main-function-bus-off, cancel-all, confirmed, indicated, modes-changed, buses-off}
+use Rattle.rules.specs.Events.{tx-complete, bus-off-detected, frame-arrived, best-object}
+use Rattle.rules.specs.Can.{Frame, can-format, next-length, lengths-below, object-bytes}
+use Rattle.rules.specs.Chip.{chip}
+use Rattle.history.specs.Call.{Call, Init, SetControllerMode, Write, MainFunctionRead, MainFunctionMode, MainFunctionBusOff, TxComplete, BusOffDetected, FrameArrived, performed}
+use Rattle.history.specs.Trace.{trace, left-by}
+use Rattle.history.specs.Account.{force-by}
+use Rattle.history.specs.Reference.{reference-by}
+use Rattle.history.specs.PollRule.{SentThenPolled}
+
+abbrev pub sheet : List ℕ
+sheet = replicate (sheet-size chip) 0
+
+abbrev pub ram : List ℕ
+ram = replicate (ram-size chip) 0
+
+-- three controllers; objects 0, 1 and 2 send, one on each, and object 3 receives 120 on controller 0
+abbrev pub bytes : List ℕ
+bytes =
+    0x43 ∷ 0x48 ∷ 0x42 ∷ 0x00 ∷ 0x01 ∷ 0x03 ∷ 0x04 ∷ 0x00
+    ∷ 0x00 ∷ 0x00 ∷ 0x08 ∷ 0xCC ∷ 0x00 ∷ 0x00 ∷ 0x00 ∷ 0x00 ∷ 0x00 ∷ 0x00 ∷ 0x00 ∷ 0x00
+    ∷ 0x01 ∷ 0x00 ∷ 0x08 ∷ 0xCC ∷ 0x00 ∷ 0x00 ∷ 0x00 ∷ 0x00 ∷ 0x00 ∷ 0x00 ∷ 0x00 ∷ 0x00
+    ∷ 0x02 ∷ 0x00 ∷ 0x08 ∷ 0xCC ∷ 0x00 ∷ 0x00 ∷ 0x00 ∷ 0x00 ∷ 0x00 ∷ 0x00 ∷ 0x00 ∷ 0x00
+    ∷ 0x00 ∷ 0x01 ∷ 0x08 ∷ 0x00 ∷ 0x00 ∷ 0x00 ∷ 0x01 ∷ 0x20 ∷ 0x00 ∷ 0x00 ∷ 0x07 ∷ 0xFF ∷ []
+
+abbrev pub frame : Frame
+frame = record { identifier = 0x120; sdu = 0x01 ∷ 0x02 ∷ [] }
+
+-- all controllers are STARTED, and every sending object is written
+abbrev pub before : List (Call can-format)
+before =
+    Init sheet bytes
+    ∷ SetControllerMode sheet 0 STARTED
+    ∷ SetControllerMode sheet 1 STARTED
+    ∷ SetControllerMode sheet 2 STARTED
+    ∷ MainFunctionMode sheet
+    ∷ Write sheet 0 7 (omega arith) frame
+    ∷ Write sheet 1 8 (omega arith) frame
+    ∷ Write sheet 2 9 (omega arith) frame
+    ∷ []
+
+-- after object 0 is sent: a frame arrives on its controller, controller 1 is stopped, controller 2 goes off the bus, and frames are read
+abbrev pub between : List (Call can-format)
+between =
+    FrameArrived sheet 0 frame
+    ∷ SetControllerMode sheet 1 STOPPED
+    ∷ MainFunctionMode sheet
+    ∷ BusOffDetected 2
+    ∷ MainFunctionBusOff sheet
+    ∷ MainFunctionRead sheet
+    ∷ []
+
+-- PollRule: object 0 is sent, all this comes between, and then the write poll
+pub sent-then-polled : SentThenPolled chip can-format 0 before between ram sheet
+unfolding rising all-below list-below better best-below big-endian number splice same-bytes first-reason return-code configuration-of accepted-bytes valid judged init set-controller-mode write main-function-write main-function-read main-function-mode main-function-bus-off cancel-all confirmed indicated modes-changed buses-off tx-complete bus-off-detected frame-arrived best-object next-length lengths-below object-bytes performed trace left-by force-by reference-by
+sent-then-polled = record { sent = refl; none-came = (refl, (refl, (refl, (refl, (refl, (refl, (refl, tt))))))); polled = refl }
+
+-- ValidRule and ReceivedRule: a sound state in which object 3 is full
+abbrev pub full-state : State can-format
+full-state = left-by chip can-format (before ++ (FrameArrived sheet 0 frame ∷ [])) (initial-state chip can-format) ram .state
+
+pub full-and-sound : (valid chip can-format full-state ≡ true) × (mailbox-at (full-state .mailboxes) 3 .rx-full ≡ true)
+unfolding rising all-below list-below better best-below big-endian number splice same-bytes first-reason return-code configuration-of accepted-bytes valid judged init set-controller-mode write main-function-mode cancel-all modes-changed frame-arrived best-object next-length lengths-below object-bytes performed left-by
+full-and-sound = (refl, refl)
