@@ -20,11 +20,11 @@ use Rattle.history.specs.Call.{Call, Init, DeInit, SetControllerMode, Ge
 use Rattle.history.specs.Reference.{entry}
 use Rattle.history.specs.Trace.{is-accepted}
 use Rattle.history.specs.PollRule.{closes-sent}
-use Rattle.history.specs.Operators.{closed-in, is-stopping}
+use Rattle.history.specs.Operators.{closed-in}
 use Rattle.laws.proofs.Tests.{clash, cond-both}
 use Rattle.laws.proofs.Repeat.{rising-keeps}
 use Rattle.laws.proofs.Reasons.{judged-cases, judged-either}
-use Rattle.history.proofs.Untouched.{Untouched, at-first, still-open, modes-untouched, buses-off-untouched}
+use Rattle.history.proofs.Untouched.{Untouched, stopping, at-first, still-open, modes-untouched, buses-off-untouched}
 
 module _ (L : Limits) (F : Format) (h : ℕ) where
   abbrev Open : Boxes → Type 0
@@ -63,9 +63,9 @@ module _ (L : Limits) (F : Format) (h : ℕ) where
         → mailbox-at (s .mailboxes) h .tx-pending ≡ true → ⊥
     stays leaves e i t same pending = clash t (subst (λ (j : ℕ). leaves (controller-at (s .controllers) j) ≡ false) (sym own ∙ same) e)
 
-    pub modes-leave : is-stopping (controller-at (s .controllers) c) ≡ false → Untouched h (mailbox-at (s .mailboxes) h) (modes-changed L F s ram .boxes)
+    pub modes-leave : stopping (controller-at (s .controllers) c) ≡ false → Untouched h (mailbox-at (s .mailboxes) h) (modes-changed L F s ram .boxes)
     unfolding modes-changed
-    modes-leave e = modes-untouched L F ram h (mailbox-at (s .mailboxes) h) (s .configuration) (sweep-of L F s) (stays is-stopping e) (at-first L F s h) (s .configuration .controller-count)
+    modes-leave e = modes-untouched L F ram h (mailbox-at (s .mailboxes) h) (s .configuration) (sweep-of L F s) (stays stopping e) (at-first L F s h) (s .configuration .controller-count)
 
     pub buses-off-leave : controller-at (s .controllers) c .bus-off ≡ false → Untouched h (mailbox-at (s .mailboxes) h) (buses-off L F s ram .boxes)
     unfolding buses-off
@@ -89,6 +89,6 @@ module _ (L : Limits) (F : Format) (h : ℕ) where
   performed-quiet (MainFunctionWrite sheet) s ram c own none-came =
       judged-cases F (λ (o : Outcome F). (is-accepted o && true) ≡ false → Quiet o) _ _ _ (λ e n. refl) (λ r n. clash refl n) none-came
   performed-quiet (MainFunctionMode sheet) s ram c own none-came =
-      judged-cases F (λ (o : Outcome F). (is-accepted o && is-stopping (controller-at (s .controllers) c)) ≡ false → Quiet o) _ _ _ (λ e n. refl) (λ r n. modes-leave s ram c own n .unclosed) none-came
+      judged-cases F (λ (o : Outcome F). (is-accepted o && stopping (controller-at (s .controllers) c)) ≡ false → Quiet o) _ _ _ (λ e n. refl) (λ r n. modes-leave s ram c own n .unclosed) none-came
   performed-quiet (MainFunctionBusOff sheet) s ram c own none-came =
       judged-cases F (λ (o : Outcome F). (is-accepted o && controller-at (s .controllers) c .bus-off) ≡ false → Quiet o) _ _ _ (λ e n. refl) (λ r n. buses-off-leave s ram c own n .unclosed) none-came

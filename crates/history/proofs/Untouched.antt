@@ -15,7 +15,8 @@ use Rattle.rules.specs.Notification.{Notification, mode-indication, bus-off-ind
 use Rattle.rules.specs.Configuration.{Configuration, object-at}
 use Rattle.rules.specs.State.{Controller, Mailbox, State, idle-controller, empty-mailbox, controller-at, mailbox-at}
 use Rattle.rules.specs.Polls.{Boxes, Sweep, Closing, closing-notification, object-in, boxes-of, by-sent, by-stop, notify, close, confirm-one, cancel-one, cancel-all, change-mode, mode-one, go-bus-off, bus-off-one, takes-request, leaves-started, entering-request, entering-bus-off}
-use Rattle.history.specs.Operators.{closes, closed-in, is-stopping}
+use Rattle.history.specs.Operators.{closes, closed-in}
+use Rattle.history.specs.Reference.{entry, stops}
 use Rattle.laws.proofs.Tests.{both, left, right, clash, cond-both}
 use Rattle.laws.proofs.Repeat.{rising-keeps}
 use Rattle.laws.proofs.Sweeps.{sweep-above}
@@ -33,6 +34,10 @@ still-open h [] n e f = rw f
 still-open h (m ∷ ns) n e f =
     let none-closed = neither (closes h m) (closed-in h ns) e in
     rw (none-closed .0) (still-open h ns n (none-closed .1) f)
+
+-- a mode poll takes the controller out of STARTED
+abbrev pub stopping : Controller → Bool
+stopping k = stops (entry k)
 
 -- object h still has the mailbox m
 pub record Untouched (h : ℕ) (m : Mailbox) (b : Boxes) : Type 0 where
@@ -86,7 +91,7 @@ module _ (L : Limits) (F : Format) (ram : List ℕ) (h : ℕ) (m : Mailbox) wher
     abbrev Spared : Bool → ℕ → Type 0
     Spared leaves k = leaves ≡ true → object-at L F cfg h .controller ≡ k → m .tx-pending ≡ true → ⊥
 
-    mode-turn : (i : ℕ) (w : Sweep) → Spared (is-stopping (controller-at (w .controllers) i)) i → Untouched h m (w .boxes) → Untouched h m (mode-one L F cfg ram i w .boxes)
+    mode-turn : (i : ℕ) (w : Sweep) → Spared (stopping (controller-at (w .controllers) i)) i → Untouched h m (w .boxes) → Untouched h m (mode-one L F cfg ram i w .boxes)
     mode-turn i w spared u =
         let k = controller-at (w .controllers) i in
         cond-both (λ (x : Sweep). Untouched h m (x .boxes)) (takes-request k) (change-mode L F cfg ram i k w) w
@@ -114,8 +119,8 @@ module _ (L : Limits) (F : Format) (ram : List ℕ) (h : ℕ) (m : Mailbox) wher
           met : controller-at (rising n f w .controllers) n ≡ controller-at (w .controllers) n
           met = sweep-above Sweep Controller (λ (x : Sweep). x .controllers) idle-controller (λ i. test) change f visit w n n (le-refl n)
 
-    pub modes-untouched : (w : Sweep) → ((i : ℕ) → Spared (is-stopping (controller-at (w .controllers) i)) i) → Untouched h m (w .boxes) → (n : ℕ) → Untouched h m (rising n (mode-one L F cfg ram) w .boxes)
-    modes-untouched w spared u n = sweep-untouched takes-request is-stopping entering-request (mode-one L F cfg ram) (mode-visit L F 0 cfg ram) mode-turn w spared u n
+    pub modes-untouched : (w : Sweep) → ((i : ℕ) → Spared (stopping (controller-at (w .controllers) i)) i) → Untouched h m (w .boxes) → (n : ℕ) → Untouched h m (rising n (mode-one L F cfg ram) w .boxes)
+    modes-untouched w spared u n = sweep-untouched takes-request stopping entering-request (mode-one L F cfg ram) (mode-visit L F 0 cfg ram) mode-turn w spared u n
 
     pub buses-off-untouched : (w : Sweep) → ((i : ℕ) → Spared (controller-at (w .controllers) i .bus-off) i) → Untouched h m (w .boxes) → (n : ℕ) → Untouched h m (rising n (bus-off-one L F cfg ram) w .boxes)
     buses-off-untouched w spared u n = sweep-untouched (λ k. k .bus-off) (λ k. k .bus-off) entering-bus-off (bus-off-one L F cfg ram) (bus-off-visit L F 0 cfg ram) bus-off-turn w spared u n

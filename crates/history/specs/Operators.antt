@@ -1,16 +1,17 @@
 -- What operators ask of the polls: whose objects they leave alone.
 use Prim.Native.Nat.{ℕ}
 use mathlib.Core.Path.{_≡_}
-use mathlib.Core.Bool.{Bool, true, false, _&&_, _||_}
+use mathlib.Core.Bool.{Bool, true, false, _||_}
 use mathlib.Core.List.{List, [], _∷_}
 use lib.Dec.{eqb}
 use Rattle.rules.specs.Limits.{Limits}
 use Rattle.rules.specs.Format.{Format}
 use Rattle.rules.specs.Notification.{Notification, tx-confirmation, rx-indication, mode-indication, bus-off-indication, development-error, data-lost, tx-cancellation}
-use Rattle.rules.specs.State.{Controller, State, valid, mailbox-at}
+use Rattle.rules.specs.State.{State, valid, mailbox-at}
 use Rattle.rules.specs.Outcome.{Outcome}
 use Rattle.rules.specs.Services.{controller-of}
-use Rattle.rules.specs.Polls.{object-in, takes-request, leaves-started, main-function-write, main-function-mode, main-function-bus-off}
+use Rattle.rules.specs.Polls.{object-in, main-function-write, main-function-mode, main-function-bus-off}
+use Rattle.history.specs.Reference.{entry, stops}
 
 -- "A closing notice of an object is a record of kind 1 (a confirmation) or 7 that names it"
 abbrev pub closes : ℕ → Notification → Bool
@@ -26,10 +27,6 @@ unfoldable pub closed-in : ℕ → List Notification → Bool
 closed-in h [] = false
 closed-in h (n ∷ ns) = closes h n || closed-in h ns
 
--- a mode poll takes the controller out of STARTED
-abbrev pub is-stopping : Controller → Bool
-is-stopping k = takes-request k && leaves-started k
-
 module _ (L : Limits) (F : Format) (s : State F) (sheet : ℕ) (ram : List ℕ) (h : ℕ) where
   -- the call leaves object h as it was: what the state remembers of it, its bytes, and no closing notice names it
   pub record ObjectKept (o : Outcome F) : Type 0 where
@@ -37,10 +34,11 @@ module _ (L : Limits) (F : Format) (s : State F) (sheet : ℕ) (ram : List ℕ) 
     pub bytes : object-in L F (o .ram) h ≡ object-in L F ram h
     pub not-closed : closed-in h (o .notifications) ≡ false
 
-  -- a poll that stops controllers, or takes them off the bus, leaves the objects of every other one as they were
+  -- a poll that stops controllers, or takes them off the bus, leaves the objects of every other one as they were: of those whose entry
+  -- in the reference modes is not to be stopped, or not marked
   pub record OthersKept : Type 0 where
-    pub mode-poll : is-stopping (controller-of L F s h) ≡ false → ObjectKept (main-function-mode L F s sheet ram)
-    pub bus-off-poll : controller-of L F s h .bus-off ≡ false → ObjectKept (main-function-bus-off L F s sheet ram)
+    pub mode-poll : stops (entry (controller-of L F s h)) ≡ false → ObjectKept (main-function-mode L F s sheet ram)
+    pub bus-off-poll : entry (controller-of L F s h) .mark ≡ false → ObjectKept (main-function-bus-off L F s sheet ram)
 
   -- a received frame survives every poll but the read poll; "Frames survive a stop."
   pub record FrameSurvives : Type 0 where

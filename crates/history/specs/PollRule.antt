@@ -2,13 +2,11 @@
 -- came first".
 use Prim.Native.Nat.{ℕ}
 use mathlib.Core.Path.{_≡_}
-use mathlib.Core.Bool.{Bool, true, false, not, cond, _&&_}
+use mathlib.Core.Bool.{Bool, true, false, cond, _&&_}
 use mathlib.Core.List.{List, [], _∷_, _++_}
 use mathlib.Core.Logic.{_⊎_}
-use lib.Dec.{eqb}
 use Rattle.rules.specs.Limits.{Limits}
 use Rattle.rules.specs.Format.{Format}
-use Rattle.rules.specs.Mode.{STARTED}
 use Rattle.rules.specs.Notification.{Notification, tx-confirmation}
 use Rattle.rules.specs.Configuration.{object-at, no-configuration}
 use Rattle.rules.specs.State.{initial-state}
@@ -16,12 +14,8 @@ use Rattle.rules.specs.Outcome.{Outcome}
 use Rattle.history.specs.Call.{Call, Init, DeInit, SetControllerMode, GetControllerMode, Write, MainFunctionWrite, MainFunctionRead, MainFunctionMode, MainFunctionBusOff, TxComplete, BusOffDetected, FrameArrived, performed}
 use Rattle.history.specs.Trace.{Step, Left, trace, left-by, is-accepted}
 use Rattle.history.specs.Account.{is-taken-by, force-by}
-use Rattle.history.specs.Reference.{Reference, at-first, takes-wish, reference-after, reference-by}
+use Rattle.history.specs.Reference.{Reference, at-first, stops, reference-after, reference-by}
 use Rattle.history.specs.Claim.{history}
-
--- "a stop": a mode poll takes the controller out of STARTED. Its wish and its mode are those of the reference modes.
-abbrev pub is-stopped : Reference → Bool
-is-stopped r = takes-wish r && (eqb (r .mode) STARTED && not (eqb (r .wish) STARTED))
 
 -- the notification stands among these
 abbrev pub Reported : Notification → List Notification → Type 0
@@ -32,7 +26,7 @@ module _ (L : Limits) (F : Format) where
   -- what may report a sent object of a controller, or take it: a write poll, and a "stop or bus-off poll" of that controller
   abbrev pub closes-sent : Reference → Call F → Bool
   closes-sent r (MainFunctionWrite sheet) = true
-  closes-sent r (MainFunctionMode sheet) = is-stopped r
+  closes-sent r (MainFunctionMode sheet) = stops r
   closes-sent r (MainFunctionBusOff sheet) = r .mark
   closes-sent r (Init sheet bytes) = false
   closes-sent r (DeInit sheet) = false

@@ -5,7 +5,7 @@ use mathlib.Core.List.{List, [], _∷_}
 use lib.Dec.{eqb, ltb}
 use Rattle.rules.specs.Limits.{Limits}
 use Rattle.rules.specs.Format.{Format}
-use Rattle.rules.specs.Mode.{UNINIT, STOPPED, NO-REQUEST}
+use Rattle.rules.specs.Mode.{UNINIT, STARTED, STOPPED, NO-REQUEST}
 use Rattle.rules.specs.Configuration.{controllers-byte}
 use Rattle.rules.specs.State.{Controller}
 use Rattle.rules.specs.Outcome.{Outcome}
@@ -29,6 +29,10 @@ entry k = record { mode = k .mode; wish = k .requested-mode; mark = k .bus-off }
 -- "Mode poll: each unmarked controller with a wish takes it as its mode, and the wish ends."
 abbrev pub takes-wish : Reference → Bool
 takes-wish r = not (r .mark) && not (eqb (r .wish) NO-REQUEST)
+
+-- "a stop": where this holds a mode poll takes the controller out of STARTED
+abbrev pub stops : Reference → Bool
+stops r = takes-wish r && (eqb (r .mode) STARTED && not (eqb (r .wish) STARTED))
 
 module _ (L : Limits) (F : Format) (c : ℕ) where
   -- what an accepted call makes of the entry of controller c
