@@ -14,6 +14,8 @@ use Rattle.script.specs.declared.name.Name.the-variants as names
 use Rattle.words.specs.declared.reading.Trouble.the-variants.{LineTooLong, UnknownCommand, WordMissing, WordTooMany, UnknownPoll, HandleTooLarge, SheetTooLong, MemoryTooLong}
 use Rattle.words.specs.declared.reading.Reading.{Reading}
 use Rattle.words.specs.declared.reading.Reading.the-variants as readings
+use Rattle.script.specs.declared.command.Numbered.{Numbered}
+use Rattle.script.specs.declared.command.Numbered.the-variants as numbered
 use Rattle.script.specs.declared.command.Command.{Command}
 use Rattle.script.specs.declared.command.Command.the-variants.{Blank, Init, DeInit, Set, Get, Write, PollWrite, PollRead, PollMode, PollBusOff, Sent, BusOff, Arrived, Data, Sheet, Memory, Show, State, Unreadable}
 
@@ -37,20 +39,15 @@ abbrev pub set-of : List ℕ → Command
 set-of line = with-value (number-of (word 1 line)) (λ c. set-mode-of c line)
 
 -- get C, sent OBJ, busoff C, data OBJ, show OBJ
-abbrev pub get-of : List ℕ → Command
-get-of line = with-value (number-of (word 1 line)) (λ c. Get c)
+abbrev pub of-number : Numbered → ℕ → Command
+of-number numbered.Get c = Get c
+of-number numbered.Sent h = Sent h
+of-number numbered.BusOff c = BusOff c
+of-number numbered.Data h = Data h
+of-number numbered.Show h = Show h
 
-abbrev pub sent-of : List ℕ → Command
-sent-of line = with-value (number-of (word 1 line)) (λ h. Sent h)
-
-abbrev pub bus-off-of : List ℕ → Command
-bus-off-of line = with-value (number-of (word 1 line)) (λ c. BusOff c)
-
-abbrev pub data-line-of : List ℕ → Command
-data-line-of line = with-value (number-of (word 1 line)) (λ h. Data h)
-
-abbrev pub show-of : List ℕ → Command
-show-of line = with-value (number-of (word 1 line)) (λ h. Show h)
+abbrev pub with-number : Numbered → List ℕ → Command
+with-number what line = with-value (number-of (word 1 line)) (of-number what)
 
 -- write OBJ HANDLE ID BYTES
 abbrev pub write-frame-of : ℕ → ℕ → ℕ → List ℕ → Command
@@ -95,16 +92,16 @@ unfoldable pub named : Name → List ℕ → Command
 named names.Init line = init-of line
 named names.DeInit line = DeInit
 named names.Set line = set-of line
-named names.Get line = get-of line
+named names.Get line = with-number numbered.Get line
 named names.Write line = write-of line
 named names.Poll line = poll-of (word 1 line)
-named names.Sent line = sent-of line
-named names.BusOff line = bus-off-of line
+named names.Sent line = with-number numbered.Sent line
+named names.BusOff line = with-number numbered.BusOff line
 named names.Arrived line = arrived-of line
-named names.Data line = data-line-of line
+named names.Data line = with-number numbered.Data line
 named names.Sheet line = sheet-of line
 named names.Memory line = memory-of line
-named names.Show line = show-of line
+named names.Show line = with-number numbered.Show line
 named names.State line = State
 named names.Unknown line = Unreadable UnknownCommand
 

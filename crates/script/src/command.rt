@@ -69,6 +69,15 @@ pub enum Command {
     Unreadable(Trouble),
 }
 
+// The commands that take one number and nothing else.
+pub enum Numbered {
+    Get,
+    Sent,
+    BusOff,
+    Data,
+    Show,
+}
+
 // The largest handle, sheet and memory that a line may name.
 const LARGEST_HANDLE: u32 = 65535;
 
@@ -111,58 +120,27 @@ fn set_to(line: &[u8], controller: u32) -> Command
     }
 }
 
-// get C
-fn get(line: &[u8]) -> Command
-    ensures { λ r. ⌜ r ≡ commands.get-of (now (line .entry)) ⌝ }
+// The command that a number makes.
+fn of_number(what: Numbered, n: u32) -> Command
+    ensures { λ r. ⌜ r ≡ commands.of-number what n ⌝ }
 {
-    let reading = number(word(line, 1));
-    match reading {
-        Reading::Unreadable(t) => Command::Unreadable(t),
-        Reading::Value(n) => Command::Get { controller: n },
+    match what {
+        Numbered::Get => Command::Get { controller: n },
+        Numbered::Sent => Command::Sent { object: n },
+        Numbered::BusOff => Command::BusOff { controller: n },
+        Numbered::Data => Command::Data { object: n },
+        Numbered::Show => Command::Show { object: n },
     }
 }
 
-// sent OBJ
-fn sent(line: &[u8]) -> Command
-    ensures { λ r. ⌜ r ≡ commands.sent-of (now (line .entry)) ⌝ }
+// get C, sent OBJ, busoff C, data OBJ, show OBJ
+fn with_number(line: &[u8], what: Numbered) -> Command
+    ensures { λ r. ⌜ r ≡ commands.with-number what (now (line .entry)) ⌝ }
 {
     let reading = number(word(line, 1));
     match reading {
         Reading::Unreadable(t) => Command::Unreadable(t),
-        Reading::Value(n) => Command::Sent { object: n },
-    }
-}
-
-// busoff C
-fn bus_off(line: &[u8]) -> Command
-    ensures { λ r. ⌜ r ≡ commands.bus-off-of (now (line .entry)) ⌝ }
-{
-    let reading = number(word(line, 1));
-    match reading {
-        Reading::Unreadable(t) => Command::Unreadable(t),
-        Reading::Value(n) => Command::BusOff { controller: n },
-    }
-}
-
-// data OBJ
-fn data_line(line: &[u8]) -> Command
-    ensures { λ r. ⌜ r ≡ commands.data-line-of (now (line .entry)) ⌝ }
-{
-    let reading = number(word(line, 1));
-    match reading {
-        Reading::Unreadable(t) => Command::Unreadable(t),
-        Reading::Value(n) => Command::Data { object: n },
-    }
-}
-
-// show OBJ
-fn show(line: &[u8]) -> Command
-    ensures { λ r. ⌜ r ≡ commands.show-of (now (line .entry)) ⌝ }
-{
-    let reading = number(word(line, 1));
-    match reading {
-        Reading::Unreadable(t) => Command::Unreadable(t),
-        Reading::Value(n) => Command::Show { object: n },
+        Reading::Value(n) => of_number(what, n),
     }
 }
 
@@ -307,16 +285,16 @@ fn named(name: Name, line: &[u8], out: &mut [u8; MOST_BYTES]) -> Command
         Name::Init => init(line, out),
         Name::DeInit => Command::DeInit,
         Name::Set => set(line),
-        Name::Get => get(line),
+        Name::Get => with_number(line, Numbered::Get),
         Name::Write => write(line, out),
         Name::Poll => poll(word(line, 1)),
-        Name::Sent => sent(line),
-        Name::BusOff => bus_off(line),
+        Name::Sent => with_number(line, Numbered::Sent),
+        Name::BusOff => with_number(line, Numbered::BusOff),
         Name::Arrived => arrived(line, out),
-        Name::Data => data_line(line),
+        Name::Data => with_number(line, Numbered::Data),
         Name::Sheet => sheet(line),
         Name::Memory => memory(line),
-        Name::Show => show(line),
+        Name::Show => with_number(line, Numbered::Show),
         Name::State => Command::State,
         Name::Unknown => Command::Unreadable(Trouble::UnknownCommand),
     }

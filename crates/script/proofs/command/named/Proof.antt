@@ -7,10 +7,11 @@ use Rattle.laws.proofs.Tests.{cond-map}
 use Rattle.words.specs.Split.{word}
 use Rattle.words.specs.Reading.{number-of, mode-of, limited-to, largest-sheet, largest-memory}
 use Rattle.words.specs.declared.reading.Trouble.the-variants.{SheetTooLong, MemoryTooLong}
-use Rattle.script.specs.Command.{with-value, named, set-of, set-mode-of, poll-of, brought, CommandRead}
+use Rattle.script.specs.Command.{with-value, of-number, named, set-of, set-mode-of, poll-of, brought, CommandRead}
 use Rattle.script.specs.declared.name.Name.{Name}
+use Rattle.script.specs.declared.command.Numbered.the-variants as numbered
 use Rattle.script.specs.declared.command.Command.{Command}
-use Rattle.script.specs.declared.command.Command.the-variants.{Set, Get, Sent, BusOff, Data, Sheet, Memory, Show}
+use Rattle.script.specs.declared.command.Command.the-variants.{Set, Sheet, Memory}
 use Rattle.script.proofs.Made.{silent, quiet}
 use borrow.Author.Needs.{needs}
 use Rattle.script.proofs.command.named.Statement.{statement}
@@ -58,8 +59,8 @@ set-requires c κs = search needs
 enum-told-4 : tie.Need-enum-told-4
 enum-told-4 c = search needs
 
-get-requires : tie.Need-get-requires
-get-requires c κs = search needs
+with-number-requires : tie.Need-with-number-requires
+with-number-requires c κs = search needs
 
 enum-told-5 : tie.Need-enum-told-5
 enum-told-5 c = search needs
@@ -79,14 +80,14 @@ poll-requires c κs = search needs
 enum-told-7 : tie.Need-enum-told-7
 enum-told-7 c = search needs
 
-sent-requires : tie.Need-sent-requires
-sent-requires c κs = search needs
+with-number-requires-2 : tie.Need-with-number-requires-2
+with-number-requires-2 c κs = search needs
 
 enum-told-8 : tie.Need-enum-told-8
 enum-told-8 c = search needs
 
-bus-off-requires : tie.Need-bus-off-requires
-bus-off-requires c κs = search needs
+with-number-requires-3 : tie.Need-with-number-requires-3
+with-number-requires-3 c κs = search needs
 
 enum-told-9 : tie.Need-enum-told-9
 enum-told-9 c = search needs
@@ -97,8 +98,8 @@ arrived-requires c κs = search needs
 enum-told-10 : tie.Need-enum-told-10
 enum-told-10 c = search needs
 
-data-line-requires : tie.Need-data-line-requires
-data-line-requires c κs = search needs
+with-number-requires-4 : tie.Need-with-number-requires-4
+with-number-requires-4 c κs = search needs
 
 enum-told-11 : tie.Need-enum-told-11
 enum-told-11 c = search needs
@@ -115,8 +116,8 @@ memory-requires c κs = search needs
 enum-told-13 : tie.Need-enum-told-13
 enum-told-13 c = search needs
 
-show-requires : tie.Need-show-requires
-show-requires c κs = search needs
+with-number-requires-5 : tie.Need-with-number-requires-5
+with-number-requires-5 c κs = search needs
 
 enum-told-14 : tie.Need-enum-told-14
 enum-told-14 c = search needs
@@ -138,7 +139,7 @@ returns-3 c = quiet-arm (c .before .enum-told3 .given .1) (c .set .ensures) (set
 
 returns-4 : tie.Need-returns-4
 unfolding named brought
-returns-4 c = quiet-arm (c .before .enum-told4 .given .1) (c .get .ensures) (number-quiet (λ n. Get n) _ (λ n. refl))
+returns-4 c = quiet-arm (c .before .enum-told4 .given .1) (c .with-number .ensures) (number-quiet (of-number numbered.Get) _ (λ n. refl))
 
 returns-5 : tie.Need-returns-5
 unfolding named brought
@@ -150,11 +151,11 @@ returns-6 c = quiet-arm (c .before .before .enum-told6 .given .1) (c .poll .ensu
 
 returns-7 : tie.Need-returns-7
 unfolding named brought
-returns-7 c = quiet-arm (c .before .enum-told7 .given .1) (c .sent .ensures) (number-quiet (λ n. Sent n) _ (λ n. refl))
+returns-7 c = quiet-arm (c .before .enum-told7 .given .1) (c .with-number2 .ensures) (number-quiet (of-number numbered.Sent) _ (λ n. refl))
 
 returns-8 : tie.Need-returns-8
 unfolding named brought
-returns-8 c = quiet-arm (c .before .enum-told8 .given .1) (c .bus-off .ensures) (number-quiet (λ n. BusOff n) _ (λ n. refl))
+returns-8 c = quiet-arm (c .before .enum-told8 .given .1) (c .with-number3 .ensures) (number-quiet (of-number numbered.BusOff) _ (λ n. refl))
 
 returns-9 : tie.Need-returns-9
 unfolding named brought
@@ -162,7 +163,7 @@ returns-9 c = arm (c .before .before .enum-told9 .given .1) (c .arrived .ensures
 
 returns-10 : tie.Need-returns-10
 unfolding named brought
-returns-10 c = quiet-arm (c .before .enum-told10 .given .1) (c .data-line .ensures) (number-quiet (λ n. Data n) _ (λ n. refl))
+returns-10 c = quiet-arm (c .before .enum-told10 .given .1) (c .with-number4 .ensures) (number-quiet (of-number numbered.Data) _ (λ n. refl))
 
 returns-11 : tie.Need-returns-11
 unfolding named brought
@@ -178,7 +179,7 @@ returns-12 c =
 
 returns-13 : tie.Need-returns-13
 unfolding named brought
-returns-13 c = quiet-arm (c .before .enum-told13 .given .1) (c .show .ensures) (number-quiet (λ n. Show n) _ (λ n. refl))
+returns-13 c = quiet-arm (c .before .enum-told13 .given .1) (c .with-number5 .ensures) (number-quiet (of-number numbered.Show) _ (λ n. refl))
 
 returns-14 : tie.Need-returns-14
 unfolding named brought
@@ -198,26 +199,26 @@ named-spec =
     enum-told-3
     set-requires
     enum-told-4
-    get-requires
+    with-number-requires
     enum-told-5
     write-requires
     enum-told-6
     word-requires
     poll-requires
     enum-told-7
-    sent-requires
+    with-number-requires-2
     enum-told-8
-    bus-off-requires
+    with-number-requires-3
     enum-told-9
     arrived-requires
     enum-told-10
-    data-line-requires
+    with-number-requires-4
     enum-told-11
     sheet-requires
     enum-told-12
     memory-requires
     enum-told-13
-    show-requires
+    with-number-requires-5
     enum-told-14
     enum-told-15
     returns
