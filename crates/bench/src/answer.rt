@@ -1,5 +1,5 @@
 // What an accepted call answers, in words.
-use crate::frame::mode;
+use crate::frames::mode;
 use crate::print::numbered;
 use crate::state;
 use calls::answer::Answer;

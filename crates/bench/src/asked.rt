@@ -1,11 +1,11 @@
 // Calls in words.
-use crate::frame::identifier;
-use crate::frame::mode;
+use crate::frames::identifier;
+use crate::frames::mode;
 use crate::print::count_of;
 use crate::print::numbered;
-use crate::request::Wanted;
 use calls::request::Function;
 use calls::request::Request;
+use requests::request::Wanted;
 use text::put::put;
 
 fn set(out: &mut [u8], at: usize, controller: u32, asked: u32) -> usize {

@@ -3,7 +3,7 @@
 //     bench [plain|words] < SCRIPT
 mod answer;
 mod asked;
-mod frame;
+mod frames;
 mod input;
 mod line;
 mod night;
@@ -12,7 +12,6 @@ mod object;
 mod plain;
 mod print;
 mod refused;
-mod request;
 mod state;
 mod style;
 mod summary;

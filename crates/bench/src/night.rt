@@ -1,5 +1,4 @@
 // The bench between two lines of a night.
-ghost use Rattle.io.specs.Counts.{Counts};
 use can::OBJECTS;
 use can::RAM_SIZE;
 use can::SHEET_SIZE;
@@ -64,13 +63,6 @@ pub fn begun(plain: bool) -> Night {
 // One more.
 pub fn more(n: u64) -> u64 {
     std::num::wrapping_add_u64(n, 1)
-}
-
-// So many of the words, or all if there are fewer.
-pub fn of_words(n: usize, words: &[u32]) -> usize
-    ensures { λ r. ⌜ Counts r (now (words .entry)) ⌝ }
-{
-    if n < words.len() { n } else { words.len() }
 }
 
 // The line that wrote or brought the frame of an object; 0 if there is no such object.

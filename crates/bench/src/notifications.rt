@@ -1,13 +1,14 @@
 // Notifications in words, and what they say became of the frames.
-use crate::frame::identifier_in;
-use crate::frame::mode;
-use crate::frame::whole;
+use crate::frames::identifier_in;
+use crate::frames::mode;
+use crate::frames::whole;
 use crate::night::Tally;
 use crate::night::more;
 use crate::night::origin;
 use crate::print::numbered;
 use crate::print::right;
 use can::OBJECTS;
+use layout::notification::WORDS;
 use text::put::put;
 
 // The four words of a notification.
@@ -20,12 +21,12 @@ pub struct Notification {
 
 // The notification with this number on the sheet; all zero behind its end.
 pub fn notification_at(sheet: &[u32], i: usize) -> Notification {
-    if i < sheet.len() / 4 {
+    if i < sheet.len() / WORDS {
         return Notification {
-            kind: sheet[4 * i],
-            place: sheet[4 * i + 1],
-            second: sheet[4 * i + 2],
-            third: sheet[4 * i + 3],
+            kind: sheet[WORDS * i],
+            place: sheet[WORDS * i + 1],
+            second: sheet[WORDS * i + 2],
+            third: sheet[WORDS * i + 3],
         };
     }
     Notification {
@@ -215,15 +216,7 @@ pub fn told(
 }
 
 // The most bytes that an entry of the list takes.
-const ENTRY: usize = 512;
-
-// Whether the list has room for one more entry.
-pub fn has_room(size: usize, at: usize) -> bool {
-    if size < at {
-        return false;
-    }
-    ENTRY <= size - at
-}
+pub const ENTRY: usize = 512;
 
 // The entry of a frame that a bus-off took: the line of the poll, and the whole frame.
 pub fn listed(

@@ -5,6 +5,7 @@ use can::OBJECTS;
 use can::RAM_SIZE;
 use layout::bytes::number_2;
 use layout::bytes::number_4;
+use layout::object::HEAD_SIZE;
 use text::put::put;
 use text::put::put_hex;
 use text::put::put_hexadecimal;
@@ -30,7 +31,7 @@ fn byte(out: &mut [u8], at: usize, word: &[u8], b: u8) -> usize {
 
 // What the bytes before the data say: identifier word, wire length, DLC code and handle.
 fn head(out: &mut [u8], at: usize, object: &[u8]) -> usize {
-    if object.len() < 8 {
+    if object.len() < HEAD_SIZE {
         return put(out, at, b"none");
     }
     let mut end = put(out, at, b"identifier word ");
@@ -41,11 +42,11 @@ fn head(out: &mut [u8], at: usize, object: &[u8]) -> usize {
 }
 
 fn data(out: &mut [u8], at: usize, object: &[u8]) -> usize {
-    if object.len() < 8 {
+    if object.len() < HEAD_SIZE {
         return at;
     }
     let end = put(out, at, b"data ");
-    put_hex(out, end, &object[8..])
+    put_hex(out, end, &object[HEAD_SIZE..])
 }
 
 // An object in words.

@@ -1,42 +1,33 @@
 // Why a call is refused, in words.
-use crate::frame::identifier;
-use crate::frame::is_fd;
-use crate::frame::mode;
+use crate::frames::identifier;
+use crate::frames::mode;
 use crate::night::Night;
 use crate::night::origin;
 use crate::print::count_of;
 use crate::print::numbered;
-use crate::request::Wanted;
 use calls::request::Function;
 use calls::request::Request;
-use can::CONTROLLERS;
-use can::OBJECTS;
 use can::RAM_SIZE;
 use can::Rejection;
 use can::SHEET_SIZE;
 use can::State;
+use frame::identifier::is_fd;
+use frame::length::LONGEST_FD;
+use places::at::controller_at;
+use places::at::object_at;
+use requests::request::Wanted;
 use text::put::put;
 
 // The controller of an object.
 fn controller_of(state: State, object: u32) -> u64 {
-    let h = object as usize;
-    if OBJECTS <= h {
-        return 0;
-    }
     let objects = state.objects;
-    let o = objects[h];
-    o.controller as u64
+    object_at(objects, object as usize).controller as u64
 }
 
 // The mode of a controller.
 fn mode_of(state: State, controller: u32) -> u32 {
-    let c = controller as usize;
-    if CONTROLLERS <= c {
-        return 0;
-    }
     let controllers = state.controllers;
-    let k = controllers[c];
-    k.mode as u32
+    controller_at(controllers, controller as usize).mode as u32
 }
 
 // The controller that a call names, or that of its object.
@@ -85,7 +76,7 @@ fn data_length(out: &mut [u8], at: usize, identifier: u32, length: usize) -> usi
     if !is_fd(identifier) {
         return put(out, counted, b", and a classic frame holds at most 8");
     }
-    if 64 < length {
+    if (LONGEST_FD as usize) < length {
         return put(out, counted, b", and an FD frame holds at most 64");
     }
     put(

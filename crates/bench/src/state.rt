@@ -1,5 +1,5 @@
 // The driver state in words.
-use crate::frame::mode;
+use crate::frames::mode;
 use crate::print::count_of;
 use crate::print::numbered;
 use crate::print::right;

@@ -1,14 +1,15 @@
 // The notifications of a call, one after the other.
 use crate::night::Tally;
 use crate::night::more;
+use crate::notifications::ENTRY;
 use crate::notifications::Notification;
 use crate::notifications::counted;
-use crate::notifications::has_room;
 use crate::notifications::is_taken;
 use crate::notifications::listed;
 use crate::notifications::notification_at;
 use crate::notifications::told;
 use can::OBJECTS;
+use text::put::has_room;
 
 // How far the output and the list of taken frames are filled, and the tally.
 pub struct Told {
@@ -44,7 +45,7 @@ fn one(
         };
     }
     let taken_at = before.taken_at;
-    if !has_room(taken.len(), taken_at) {
+    if !has_room(taken.len(), taken_at, ENTRY) {
         let mut full = next;
         full.unlisted = more(next.unlisted);
         return Told {

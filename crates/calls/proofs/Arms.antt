@@ -45,10 +45,14 @@ holds P (k ∷ []) x all e = ap P e ∙ left (P k) true all
 holds P (k ∷ k' ∷ ks) x all (inl e) = ap P e ∙ left (P k) (every P (k' ∷ ks)) all
 holds P (k ∷ k' ∷ ks) x all (inr one) = holds P (k' ∷ ks) x (right (P k) (every P (k' ∷ ks)) all) one
 
+-- what holds of each of an arm's functions holds of the one that took it
+pub each : (P : Function → Bool) (f : Function) (ks : List ℕ) → OneOf ks (tagOf the-type f) → every (λ n. P (at n)) ks ≡ true → P f ≡ true
+each P f ks one all = ap P (sym (at-place f)) ∙ holds (λ n. P (at n)) ks (tagOf the-type f) all one
+
 module _ (f : Function) (m : ℕ) (ks : List ℕ) (one : OneOf ks (tagOf the-type f)) where
   -- all of an arm's functions are of one kind
   pub of-kind : every (λ n. eqb (kind (at n)) m) ks ≡ true → kind f ≡ m
-  of-kind all = ap kind (sym (at-place f)) ∙ eqb-true (kind (at (tagOf the-type f))) m (holds (λ n. eqb (kind (at n)) m) ks (tagOf the-type f) all one)
+  of-kind all = eqb-true (kind f) m (each (λ g. eqb (kind g) m) f ks one all)
 
   -- only one of an arm's functions is of the kind
   pub only : (g : ℕ) → every (λ n. not (eqb (kind (at n)) m) || eqb n g) ks ≡ true → kind f ≡ m → f ≡ at g

@@ -1,5 +1,6 @@
 -- What a request asks of the driver: the rules' definition of the function that it names.
 use Prim.Native.Nat.{ℕ, _%_}
+use mathlib.Core.Bool.{Bool, true, false}
 use mathlib.Core.List.{List}
 use Rattle.rules.specs.State.{State}
 use Rattle.rules.specs.Outcome.{Outcome}
@@ -63,3 +64,18 @@ kind PollBusOff = POLL
 kind Sent = EVENT
 kind BusOff = EVENT
 kind Arrived = EVENT
+
+-- the bus-off poll
+abbrev pub is-bus-off-poll : Function → Bool
+is-bus-off-poll Init = false
+is-bus-off-poll DeInit = false
+is-bus-off-poll Set = false
+is-bus-off-poll Get = false
+is-bus-off-poll Write = false
+is-bus-off-poll PollWrite = false
+is-bus-off-poll PollRead = false
+is-bus-off-poll PollMode = false
+is-bus-off-poll PollBusOff = true
+is-bus-off-poll Sent = false
+is-bus-off-poll BusOff = false
+is-bus-off-poll Arrived = false

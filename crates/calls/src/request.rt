@@ -1,4 +1,6 @@
 // A call of the driver as a value.
+ghost use mathlib.Core.Path.{_≡_};
+ghost use Rattle.calls.specs.Request as requests;
 
 // The function of the driver.
 pub enum Function {
@@ -24,4 +26,15 @@ pub struct Request {
     pub object: u32,
     pub number: u32,
     pub identifier: u32,
+}
+
+// Whether the call is the bus-off poll: the frames that it cancels are taken by a bus-off.
+pub fn is_bus_off_poll(request: Request) -> bool
+    ensures { λ r. ⌜ r ≡ requests.is-bus-off-poll (request .function) ⌝ }
+{
+    let function = request.function;
+    match function {
+        Function::PollBusOff => true,
+        _ => false,
+    }
 }

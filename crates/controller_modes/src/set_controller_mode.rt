@@ -28,7 +28,7 @@ use places::state::State;
 use places::store::with_controller;
 use places::validity::valid;
 use services::in_use::judge_in_use;
-use services::report::report;
+use services::refusal::refused;
 
 // Reason 6: a controller in this mode may be asked for that one, which can be any number.
 pub fn judge_move(k: Controller, asked: u32) -> Verdict
@@ -86,13 +86,6 @@ pub fn set_controller_mode(state: State, sheet: &mut [u32], controller: u32, mod
                 notifications: 0,
             }
         }
-        Verdict::Rejected(r) => {
-            let count = report(sheet, SET_CONTROLLER_MODE, r);
-            Called {
-                state: state,
-                verdict: Verdict::Rejected(r),
-                notifications: count,
-            }
-        }
+        Verdict::Rejected(r) => refused(state, sheet, SET_CONTROLLER_MODE, r),
     }
 }

@@ -25,7 +25,7 @@ use places::state::State;
 use places::state::initial_state;
 use places::validity::valid;
 use services::memory::clear;
-use services::report::report;
+use services::refusal::refused;
 
 // Whether one of the first count controllers is STARTED.
 pub fn some_started(controllers: [Controller; CONTROLLERS], count: usize) -> bool
@@ -71,13 +71,6 @@ pub fn deinit(state: State, ram: &mut [u8], sheet: &mut [u32]) -> Called
                 notifications: 0,
             }
         }
-        Verdict::Rejected(r) => {
-            let count = report(sheet, DEINIT, r);
-            Called {
-                state: state,
-                verdict: Verdict::Rejected(r),
-                notifications: count,
-            }
-        }
+        Verdict::Rejected(r) => refused(state, sheet, DEINIT, r),
     }
 }

@@ -1,17 +1,14 @@
 // The whole of the input, played line by line.
 use crate::line;
 use libc::STDOUT_FILENO;
+use lines::count::of_bytes;
 use lines::reader;
 use lines::reader::Reader;
 use lines::reader::advanced;
-use lines::reader::of_bytes;
+use script::command::LARGEST_MEMORY;
+use script::command::LARGEST_SHEET;
 use words::bytes::LONGEST_LINE;
 use words::bytes::MOST_BYTES;
-
-// The longest memory and sheet that a case is lent.
-const LARGEST_MEMORY: usize = 16384;
-
-const LARGEST_SHEET: usize = 4096;
 
 // A line, and the CR before its LF or the byte that makes a line too long.
 const LINE_ROOM: usize = LONGEST_LINE + 1;

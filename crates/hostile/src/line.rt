@@ -1,5 +1,4 @@
 // One line of the input: a case is played, and what came of it is put down.
-ghost use Rattle.io.specs.Counts.{Counts};
 use crate::case::CASE_BYTES;
 use crate::case::Case;
 use crate::case::read_case;
@@ -14,18 +13,12 @@ use crate::same::same;
 use calls::perform::Played;
 use calls::perform::perform;
 use config::bytes::after;
-use lines::reader::of_bytes;
+use lines::count::of_bytes;
+use lines::count::of_words;
 use words::bytes::LONGEST_LINE;
 use words::bytes::MOST_BYTES;
 use words::reading::Reading;
 use words::split::word;
-
-// So many of the words, or all if there are fewer.
-fn of_words(n: usize, words: &[u32]) -> usize
-    ensures { λ r. ⌜ Counts r (now (words .entry)) ⌝ }
-{
-    if n < words.len() { n } else { words.len() }
-}
 
 // The call, with as much of the memory and the sheet as the case lends.
 fn performed(case: Case, data: &[u8], memory: &mut [u8], sheet: &mut [u32]) -> Played {

@@ -35,7 +35,7 @@ use places::range::limited;
 use places::state::State;
 use places::validity::valid;
 use services::memory::clear;
-use services::report::report;
+use services::refusal::refused;
 
 // Reasons 6 and 9: the driver is not initialised yet, and the configuration is good.
 pub fn judge_init(initialised: bool, accepted: bool) -> Verdict
@@ -114,13 +114,6 @@ pub fn init(state: State, ram: &mut [u8], sheet: &mut [u32], bytes: &[u8]) -> Ca
                 notifications: 0,
             }
         }
-        Verdict::Rejected(r) => {
-            let count = report(sheet, INIT, r);
-            Called {
-                state: state,
-                verdict: Verdict::Rejected(r),
-                notifications: count,
-            }
-        }
+        Verdict::Rejected(r) => refused(state, sheet, INIT, r),
     }
 }

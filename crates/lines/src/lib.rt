@@ -1,2 +1,3 @@
 // Standard input, line by line.
+pub mod count;
 pub mod reader;

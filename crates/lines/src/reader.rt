@@ -1,10 +1,10 @@
 // Reading lines from standard input. The input comes in pieces, each of which a buffer holds; what a piece has of a line is put behind
 // what is read of it so far.
 ghost use mathlib.Core.Path.{_≡_};
-ghost use Prim.Native.Nat.{_<_, min};
+ghost use Prim.Native.Nat.{_<_};
 ghost use lib.ListN.{length};
-ghost use Rattle.io.specs.Counts.{Counts};
 ghost use Rattle.lines.specs.Line.{Kept, line-length, Stretched, Refilled, nothing-read, line-count, Advanced};
+use crate::count::of_bytes;
 use bytes::scan::find;
 use libc::STDIN_FILENO;
 use text::put::put;
@@ -33,14 +33,6 @@ pub fn begun() -> Reader
         whole: false,
         ended: false,
     }
-}
-
-// So many of the bytes, or all if there are fewer.
-pub fn of_bytes(n: usize, bytes: &[u8]) -> usize
-    ensures { λ r. ⌜ Counts r (now (bytes .entry)) ⌝ }
-    ensures { λ r. ⌜ r ≡ min n (length (now (bytes .entry))) ⌝ }
-{
-    if n < bytes.len() { n } else { bytes.len() }
 }
 
 // Puts more bytes of a line behind those that are read.

@@ -103,14 +103,10 @@ module _ (call : Service) where
   outcome = judged can-format (first-reason (call .checks)) refuse accept
 
   -- a rejection changes nothing, and reports its reason
-  pub refused : {v : Verdict} {count : ℕ} {before after : List ℕ} (r : Rejection) → verdict-reason v ≡ first-reason (call .checks) → v ≡ Rejected r
-      → Reported (service-report (call .number) (reason-of r)) before after count
-      → Performed outcome (reason-of r) (call .refusal) (call .state) count (call .ram) before after
-  refused r judged-so is told =
-      let e : first-reason (call .checks) ≡ reason-of r = sym judged-so ∙ ap verdict-reason is in
-      let n : eqb (first-reason (call .checks)) 0 ≡ false = rw e (reason-named r) in
-      rw (judged-refuses can-format (first-reason (call .checks)) refuse accept n, e)
-      (record {
+  pub rejection : {count : ℕ} {before after : List ℕ} (r : Rejection) → Reported (service-report (call .number) (reason-of r)) before after count
+      → Performed (refuse (reason-of r)) (reason-of r) (call .refusal) (call .state) count (call .ram) before after
+  rejection r told =
+      record {
         code-is = refl;
         reason-is = refl;
         answer-is = refl;
@@ -118,7 +114,16 @@ module _ (call : Service) where
         count-is = told .count-is;
         ram-is = refl;
         sheet-is = told .sheet-is;
-      })
+      }
+
+  -- where the verdict rejects, the call owes what the rejection owes
+  pub refused : {v : Verdict} {reason count : ℕ} {answer : Answer} {state : State} {ram before after : List ℕ} (r : Rejection)
+      → verdict-reason v ≡ first-reason (call .checks) → v ≡ Rejected r
+      → Performed (refuse (reason-of r)) reason answer state count ram before after → Performed outcome reason answer state count ram before after
+  refused r judged-so is told =
+      let e : first-reason (call .checks) ≡ reason-of r = sym judged-so ∙ ap verdict-reason is in
+      let n : eqb (first-reason (call .checks)) 0 ≡ false = rw e (reason-named r) in
+      rw (judged-refuses can-format (first-reason (call .checks)) refuse accept n, e) told
 
   -- an acceptance writes nothing on the sheet
   pub performed : {v : Verdict} {answer : Answer} {next : State} {ram : List ℕ} (sheet : List ℕ) → verdict-reason v ≡ first-reason (call .checks) → v ≡ Accepted

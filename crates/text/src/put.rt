@@ -10,7 +10,7 @@ use layout::bytes::fill;
 use layout::bytes::put_bytes;
 
 // Whether count bytes fit from position at on.
-fn has_room(size: usize, at: usize, count: usize) -> bool
+pub fn has_room(size: usize, at: usize, count: usize) -> bool
     ensures { λ r. ⌜ r ≡ puts.has-room size at count ⌝ }
 {
     if size < at {

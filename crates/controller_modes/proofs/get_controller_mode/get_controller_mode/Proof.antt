@@ -14,7 +14,7 @@ use Rattle.rules.specs.Can.{can-format}
 use Rattle.rules.specs.Chip.{chip}
 use Rattle.places.specs.View.{view}
 use Rattle.answers.specs.Answer.{verdict-reason}
-use Rattle.services.proofs.Laws.{Service, gated, has-room, performed, refused}
+use Rattle.services.proofs.Laws.{Service, gated, has-room, performed, rejection, refused}
 use Rattle.controller_modes.proofs.get_controller_mode.get_controller_mode.Statement.{statement}
 use Rattle.controller_modes.proofs.get_controller_mode.get_controller_mode.Tie as tie
 
@@ -86,7 +86,7 @@ unfolding get-controller-mode
 returns-2 c =
     let at = c .before .before .before .before .before .before .before in
     let known = c .before .before .before .before .before .verdict .given in
-    refused (call at) (known .0 .0) (verdict-is at) (known .1) (c .before .before .report .ensures)
+    refused (call at) (known .0 .0) (verdict-is at) (known .1) (rejection (call at) (known .0 .0) (c .before .before .report .ensures))
 
 pub get-controller-mode-spec : {M : Type 1} → statement M
 get-controller-mode-spec =

@@ -92,8 +92,8 @@ with-controller-requires c κs = search needs
 enum-known-verdict : tie.Need-enum-known-verdict
 enum-known-verdict c = search needs
 
-report-requires : tie.Need-report-requires
-report-requires c κs =
+refused-requires : tie.Need-refused-requires
+refused-requires c κs =
     let at = c .before .before .before .before in
     let known = c .before .before .verdict .given in
     has-room (not (valid chip can-format (view (start at .args .state)))) (length (start at .args .sheet .now)) _ (known .0 .0) (verdict-is at) (known .1)
@@ -117,7 +117,7 @@ unfolding set-controller-mode
 returns-2 c =
     let at = c .before .before .before .before .before .before .before in
     let known = c .before .before .before .before .before .verdict .given in
-    refused (call at) (known .0 .0) (verdict-is at) (known .1) (c .before .before .report .ensures)
+    refused (call at) (known .0 .0) (verdict-is at) (known .1) (c .before .before .refused .ensures [])
 
 pub set-controller-mode-spec : {M : Type 1} → statement M
 set-controller-mode-spec =
@@ -132,7 +132,7 @@ set-controller-mode-spec =
     request-mode-requires
     with-controller-requires
     enum-known-verdict
-    report-requires
+    refused-requires
     returns
     same-length
     returns-2)

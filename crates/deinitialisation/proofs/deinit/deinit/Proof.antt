@@ -76,8 +76,8 @@ verdict-is c =
     (c .before .before .before .before .some-started .ensures))
     (c .then .ensures)
 
-report-requires : tie.Need-report-requires
-report-requires c κs =
+refused-requires : tie.Need-refused-requires
+refused-requires c κs =
     let at = c .before .before .before .before in
     let known = c .before .before .verdict .given in
     has-room (not (valid chip can-format (view (start at .args .state)))) (length (start at .args .sheet .now)) _ (known .0 .0) (verdict-is at) (known .1)
@@ -104,7 +104,7 @@ unfolding deinit
 returns-2 c =
     let at = c .before .before .before .before .before .before .before in
     let known = c .before .before .before .before .before .verdict .given in
-    refused (call at) (known .0 .0) (verdict-is at) (known .1) (c .before .before .report .ensures)
+    refused (call at) (known .0 .0) (verdict-is at) (known .1) (c .before .before .refused .ensures (start at .args .ram .now))
 
 pub deinit-spec : {M : Type 1} → statement M
 deinit-spec =
@@ -119,7 +119,7 @@ deinit-spec =
     clear-requires
     initial-state-requires
     enum-known-verdict
-    report-requires
+    refused-requires
     same-length
     returns
     same-length-2

@@ -92,8 +92,8 @@ setup-is c none =
     not-false (accepted-bytes chip can-format (given .bytes .now)) (check-passed 1 own refl (own-passed s (length (given .sheet .now)) (given .ram .now) own none)) in
     c .before .before .before .before .read .ensures .setup ∙ rw good
 
-report-requires : tie.Need-report-requires
-report-requires c κs =
+refused-requires : tie.Need-refused-requires
+refused-requires c κs =
     let at = c .before .before .before .before in
     let known = c .before .before .verdict .given in
     has-room (not (valid chip can-format (view (start at .args .state)))) (length (start at .args .sheet .now)) _ (known .0 .0) (verdict-is at) (known .1)
@@ -122,7 +122,7 @@ unfolding init
 returns-2 c =
     let at = c .before .before .before .before .before .before .before in
     let known = c .before .before .before .before .before .verdict .given in
-    refused (call at) (known .0 .0) (verdict-is at) (known .1) (c .before .before .report .ensures)
+    refused (call at) (known .0 .0) (verdict-is at) (known .1) (c .before .before .refused .ensures (start at .args .ram .now))
 
 pub init-spec : {M : Type 1} → statement M
 init-spec =
@@ -137,7 +137,7 @@ init-spec =
     clear-requires
     configured-state-requires
     enum-known-verdict
-    report-requires
+    refused-requires
     same-length
     returns
     same-length-2

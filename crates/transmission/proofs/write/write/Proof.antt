@@ -21,7 +21,7 @@ use Rattle.laws.proofs.Acceptance.{write-passed}
 use Rattle.layout.proofs.Lawful.{can-lawful}
 use Rattle.places.specs.View.{view, view-object, view-controller}
 use Rattle.answers.specs.Answer.{verdict-reason}
-use Rattle.services.proofs.Laws.{Service, gated, carried, has-room, passed, valid-state, whole-ram, performed, refused}
+use Rattle.services.proofs.Laws.{Service, gated, carried, has-room, passed, valid-state, whole-ram, performed, rejection, refused}
 use Rattle.layout.proofs.Placed.{laid-whole}
 use Rattle.transmission.proofs.Writes.{places-read, room-for}
 use Rattle.transmission.proofs.write.write.Statement.{statement}
@@ -141,7 +141,7 @@ unfolding write
 returns-2 c =
     let at = c .before .before .before .before .before .before .before in
     let known = c .before .before .before .before .before .verdict .given in
-    refused (call at) (known .0 .0) (verdict-is at) (known .1) (c .before .before .report .ensures)
+    refused (call at) (known .0 .0) (verdict-is at) (known .1) (rejection (call at) (known .0 .0) (c .before .before .report .ensures))
 
 pub write-spec : {M : Type 1} → statement M
 write-spec =

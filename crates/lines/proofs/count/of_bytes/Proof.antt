@@ -1,8 +1,8 @@
--- `lines::reader::of_bytes` meets its contract: the count is within the list.
+-- `lines::count::of_bytes` meets its contract: the count is within the list.
 use native.Mathlib.Omega.{arith}
 use Rattle.io.proofs.Counting.{counts}
-use Rattle.lines.proofs.reader.of_bytes.Statement.{statement}
-use Rattle.lines.proofs.reader.of_bytes.Tie as tie
+use Rattle.lines.proofs.count.of_bytes.Statement.{statement}
+use Rattle.lines.proofs.count.of_bytes.Tie as tie
 
 returns : tie.Need-returns
 returns c = (counts _ _ (omega arith), omega arith)

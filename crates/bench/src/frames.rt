@@ -3,10 +3,11 @@ use crate::print::hex_or_none;
 use crate::print::numbered;
 use crate::print::right;
 use crate::print::to_column;
-use can::OBJECT_SIZE;
 use can::OBJECTS;
 use can::RAM_SIZE;
-use layout::bytes::number_4;
+use frame::identifier::is_extended;
+use frame::identifier::is_fd;
+use layout::read::identifier_at;
 use text::put::put;
 use text::put::put_hexadecimal;
 
@@ -19,16 +20,7 @@ pub fn identifier_in(ram: &[u8], object: u32) -> u32 {
     if ram.len() != RAM_SIZE {
         return 0;
     }
-    number_4(ram, OBJECT_SIZE * h)
-}
-
-// Bit 31 marks an extended identifier, bit 30 an FD frame.
-pub fn is_extended(identifier: u32) -> bool {
-    identifier >> 31 == 1
-}
-
-pub fn is_fd(identifier: u32) -> bool {
-    (identifier >> 30) % 2 == 1
+    identifier_at(ram, h)
 }
 
 // An identifier without the two marks, which follow it in words.

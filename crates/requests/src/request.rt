@@ -1,9 +1,11 @@
-// What a line asks for.
+// What a command asks for.
+ghost use mathlib.Core.Path.{_≡_};
+ghost use Rattle.requests.specs.Request as requests;
 use calls::request::Function;
 use calls::request::Request;
 use script::command::Command;
 
-// The call that a line wants, and how many bytes the line brings for it.
+// The call that a command wants, and how many bytes its line brings for it.
 pub struct Wanted {
     pub request: Request,
     pub length: u32,
@@ -11,6 +13,7 @@ pub struct Wanted {
 
 pub enum Asks {
     Call(Wanted),
+    // No call of the driver.
     Other,
 }
 
@@ -21,7 +24,9 @@ fn call(
     number: u32,
     identifier: u32,
     length: u32,
-) -> Asks {
+) -> Asks
+    ensures { λ r. ⌜ r ≡ requests.call (record { function = function; controller = controller; object = object; number = number; identifier = identifier }) length ⌝ }
+{
     let request = Request {
         function: function,
         controller: controller,
@@ -36,7 +41,9 @@ fn call(
 }
 
 // What a function does not take is 0.
-pub fn request_of(command: Command) -> Asks {
+pub fn request_of(command: Command) -> Asks
+    ensures { λ r. ⌜ r ≡ requests.request-of command ⌝ }
+{
     match command {
         Command::Init { length } => call(Function::Init, 0, 0, 0, 0, length),
         Command::DeInit => call(Function::DeInit, 0, 0, 0, 0, 0),
@@ -59,15 +66,12 @@ pub fn request_of(command: Command) -> Asks {
             identifier,
             length,
         } => call(Function::Arrived, controller, 0, 0, identifier, length),
-        _ => Asks::Other,
-    }
-}
-
-// Whether the frames that the call cancels are taken by a bus-off.
-pub fn is_bus_off_poll(request: Request) -> bool {
-    let function = request.function;
-    match function {
-        Function::PollBusOff => true,
-        _ => false,
+        Command::Blank => Asks::Other,
+        Command::Data { object: _ } => Asks::Other,
+        Command::Sheet { words: _ } => Asks::Other,
+        Command::Memory { bytes: _ } => Asks::Other,
+        Command::Show { object: _ } => Asks::Other,
+        Command::State => Asks::Other,
+        Command::Unreadable(_) => Asks::Other,
     }
 }

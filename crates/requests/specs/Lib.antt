@@ -1,0 +1,2 @@
+-- The call that each command of a script asks for.
+pub mod Request
