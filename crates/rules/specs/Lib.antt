@@ -18,10 +18,10 @@
 --   occupied                     tx-pending                           written, and its closing notice is due; else it is free
 --   gone                         tx-done                              sent, and its confirmation is due
 --   full                         rx-full                              received, and its indication is due; else it is empty
---   mailbox memory, memory       ram                                  message RAM; ram-size 2,304, object-size 72, object-start 72h
---   an object's 72 bytes         object-in, object-bytes              as they stand in a memory; as they are laid down
---   notice sheet, sheet          sheet                                144 is sheet-size; a call leaves it as sheet-after says
---   record, notice               Notification                         its four words are words; 36 is notification-limit
+--   mailbox memory, memory       ram                                  message RAM, of ram-size bytes; object h begins at object-start
+--   an object's 72 bytes         object-in, object-bytes              object-size of them, as they stand in a memory; as they are laid down
+--   notice sheet, sheet          sheet                                of sheet-size words at least; a call leaves it as sheet-after says
+--   record, notice               Notification                         its four words are words; a call writes notification-limit at most
 --
 -- Configuration bytes (Configuration, Can)
 --   record of 12 bytes           object-record                        of a configuration: no Notification; it says object-of
