@@ -1,5 +1,6 @@
 -- The proofs of demand 3, of the poll rule, of demand 1 and of what operators ask.
 pub mod Steps
+pub mod Effects
 pub mod Bounded
 pub mod Modes
 pub mod Objects

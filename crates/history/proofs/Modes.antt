@@ -25,9 +25,11 @@ use Rattle.rules.specs.Services.{init, deinit, set-controller-mode, get-control
 use Rattle.rules.specs.Polls.{Sweep, takes-request, entering-request, entering-bus-off, mode-one, bus-off-one, sweep-of, modes-changed, buses-off, main-function-write, main-function-read, main-function-mode, main-function-bus-off, change-mode, go-bus-off}
 use Rattle.rules.specs.Events.{tx-complete, bus-off-detected, frame-arrived, on-bus-checks, marked-bus-off, best-object, received, not-stored}
 use Rattle.history.specs.Call.{Call, Init, DeInit, SetControllerMode, GetControllerMode, Write, MainFunctionWrite, MainFunctionRead, MainFunctionMode, MainFunctionBusOff, TxComplete, BusOffDetected, FrameArrived, performed}
-use Rattle.history.specs.Trace.{trace, left-by, is-accepted}
+use Rattle.history.specs.Trace.{trace, left-by}
+use Rattle.history.specs.Effect.{written, mode-told, Effect, nothing, at-controller, accepted-effect, effect}
 use Rattle.history.specs.Reference.{Reference, takes-wish, entry, reference-after, reference-by}
 use Rattle.history.specs.Claim.{ModeKept, ModesKept, asks-mode, is-mode-poll}
+use Rattle.history.proofs.Effects.{either-effect, either-object}
 use Rattle.history.proofs.Steps.{performed-valid}
 use Rattle.laws.proofs.Tests.{left, right, clash, decide, cond-map, not-true, not-false}
 use Rattle.laws.proofs.Repeat.{length-list-below, getD-list-below, replicate-default}
@@ -47,10 +49,13 @@ idle-is k h =
     let mark-is = not-true (k .bus-off) (right (m && r) (not (k .bus-off)) h) in
     λ i. record { mode = mode-is i; requested-mode = request-is i; bus-off = mark-is i }
 
--- a test that never holds
-never : {A : Type 0} (b : Bool) → (b && false) ≡ true → A
-never true t = clash t refl
-never false t = clash t refl
+cond-same : {A : Type 0} (t : Bool) (x : A) → cond t x x ≡ x
+cond-same true x = refl
+cond-same false x = refl
+
+and-false : (b : Bool) → (b && false) ≡ false
+and-false true = refl
+and-false false = refl
 
 -- accepted bytes name no more controllers than there are places
 accepted-controllers : (L : Limits) (F : Format) (bytes : List ℕ) → accepted-bytes L F bytes ≡ true → controllers-byte L F bytes ≤ L .controllers
@@ -71,7 +76,7 @@ module _ (L : Limits) (F : Format) (c : ℕ) where
 
   -- the reference after the call is the entry of the controller after it
   abbrev Follows : Call F → State F → Outcome F → Type 0
-  Follows call s o = reference-after L F c (entry (control s)) call o ≡ entry (control (o .state))
+  Follows call s o = reference-after L F c (entry (control s)) (effect F call o) ≡ entry (control (o .state))
 
   -- a refused call changes neither
   refused-follows : (call : Call F) (s : State F) (ram : List ℕ) (report : ℕ → List Notification) (answer : Answer) (r : ℕ) → eqb r 0 ≡ false → Follows call s (rejected F report answer s ram r)
@@ -228,7 +233,7 @@ module _ (L : Limits) (F : Format) (c : ℕ) where
   performed-follows (Init sheet bytes) s ram v = init-follows sheet bytes s ram v
   performed-follows (DeInit sheet) s ram v = deinit-follows sheet s ram
   performed-follows (SetControllerMode sheet k asked) s ram v = set-controller-mode-follows sheet k asked s ram v
-  performed-follows (GetControllerMode sheet k) s ram v = judged-follows (GetControllerMode sheet k) s ram (service-report GET-CONTROLLER-MODE) (mode 0) _ _ (λ r. refl)
+  performed-follows (GetControllerMode sheet k) s ram v = judged-follows (GetControllerMode sheet k) s ram (service-report GET-CONTROLLER-MODE) (mode 0) _ _ (λ r. cond-same (eqb k c) (entry (control s)))
   performed-follows (Write sheet h handle fits frame) s ram v = judged-follows (Write sheet h handle fits frame) s ram (service-report WRITE) no-answer _ _ (λ r. refl)
   performed-follows (MainFunctionWrite sheet) s ram v = judged-follows (MainFunctionWrite sheet) s ram no-report no-answer _ _ (λ r. refl)
   performed-follows (MainFunctionRead sheet) s ram v = judged-follows (MainFunctionRead sheet) s ram no-report no-answer _ _ (λ r. refl)
@@ -246,37 +251,41 @@ module _ (L : Limits) (F : Format) (c : ℕ) where
       go (yes l) = waiting-permitted (controller-at (s .controllers) c) (own-controller L F s v c l) t
       go (no l) = clash t (ap (λ (k : Controller). takes-wish (entry k)) (unused-idle s v (omega arith)))
 
+  -- a call that is no question, accepted or not
+  no-question : {A : Type 0} (call : Call F) (o : Outcome F) → asks-mode L F c (accepted-effect F call (o .answer)) ≡ false → asks-mode L F c (effect F call o) ≡ true → A
+  no-question call o silent t = clash t (either-effect F (λ (e : Effect F). asks-mode L F c e ≡ false) call o silent refl)
+
   -- the question for a mode is answered by it
-  mode-answered : (call : Call F) (s : State F) (ram : List ℕ) → (is-accepted (performed L F call s ram) && asks-mode L F c call) ≡ true
+  mode-answered : (call : Call F) (s : State F) (ram : List ℕ) → asks-mode L F c (effect F call (performed L F call s ram)) ≡ true
       → performed L F call s ram .answer ≡ mode (control (performed L F call s ram .state) .mode)
   unfolding performed get-controller-mode
   mode-answered (GetControllerMode sheet k) s ram t =
       let r = first-reason (sheet-gate L F s (length sheet) ++ get-controller-mode-checks L F s k) in
-      judged-cases F (λ (o : Outcome F). (is-accepted o && eqb k c) ≡ true → o .answer ≡ mode (controller-at (o .state .controllers) c .mode)) r (rejected F (service-report GET-CONTROLLER-MODE) (mode 0) s ram) _
-      (λ e h. clash h (ap (λ (b : Bool). b && eqb k c) (rejected-code r e)))
-      (λ z h. ap (λ (i : ℕ). mode (controller-at (s .controllers) i .mode)) (eqb-true k c h)) t
-  mode-answered (Init sheet bytes) s ram t = never (is-accepted (performed L F (Init sheet bytes) s ram)) t
-  mode-answered (DeInit sheet) s ram t = never (is-accepted (performed L F (DeInit sheet) s ram)) t
-  mode-answered (SetControllerMode sheet k asked) s ram t = never (is-accepted (performed L F (SetControllerMode sheet k asked) s ram)) t
-  mode-answered (Write sheet h handle fits frame) s ram t = never (is-accepted (performed L F (Write sheet h handle fits frame) s ram)) t
-  mode-answered (MainFunctionWrite sheet) s ram t = never (is-accepted (performed L F (MainFunctionWrite sheet) s ram)) t
-  mode-answered (MainFunctionRead sheet) s ram t = never (is-accepted (performed L F (MainFunctionRead sheet) s ram)) t
-  mode-answered (MainFunctionMode sheet) s ram t = never (is-accepted (performed L F (MainFunctionMode sheet) s ram)) t
-  mode-answered (MainFunctionBusOff sheet) s ram t = never (is-accepted (performed L F (MainFunctionBusOff sheet) s ram)) t
-  mode-answered (TxComplete h) s ram t = never (is-accepted (performed L F (TxComplete h) s ram)) t
-  mode-answered (BusOffDetected k) s ram t = never (is-accepted (performed L F (BusOffDetected k) s ram)) t
-  mode-answered (FrameArrived sheet k frame) s ram t = never (is-accepted (performed L F (FrameArrived sheet k frame) s ram)) t
+      judged-cases F (λ (o : Outcome F). asks-mode L F c (effect F (GetControllerMode sheet k) o) ≡ true → o .answer ≡ mode (controller-at (o .state .controllers) c .mode)) r (rejected F (service-report GET-CONTROLLER-MODE) (mode 0) s ram) _
+      (λ e h. clash h (ap (λ (b : Bool). asks-mode L F c (cond b (at-controller k mode-told) nothing)) (rejected-code r e)))
+      (λ z h. ap (λ (i : ℕ). mode (controller-at (s .controllers) i .mode)) (eqb-true k c (left (eqb k c) true h))) t
+  mode-answered (Init sheet bytes) s ram t = no-question (Init sheet bytes) (performed L F (Init sheet bytes) s ram) refl t
+  mode-answered (DeInit sheet) s ram t = no-question (DeInit sheet) (performed L F (DeInit sheet) s ram) refl t
+  mode-answered (SetControllerMode sheet k asked) s ram t = no-question (SetControllerMode sheet k asked) (performed L F (SetControllerMode sheet k asked) s ram) (and-false (eqb k c)) t
+  mode-answered (Write sheet h handle fits frame) s ram t = no-question (Write sheet h handle fits frame) (performed L F (Write sheet h handle fits frame) s ram) (either-object F (λ (e : Effect F). asks-mode L F c e ≡ false) (performed L F (Write sheet h handle fits frame) s ram .answer) (written handle frame) (λ i. refl) refl) t
+  mode-answered (MainFunctionWrite sheet) s ram t = no-question (MainFunctionWrite sheet) (performed L F (MainFunctionWrite sheet) s ram) refl t
+  mode-answered (MainFunctionRead sheet) s ram t = no-question (MainFunctionRead sheet) (performed L F (MainFunctionRead sheet) s ram) refl t
+  mode-answered (MainFunctionMode sheet) s ram t = no-question (MainFunctionMode sheet) (performed L F (MainFunctionMode sheet) s ram) refl t
+  mode-answered (MainFunctionBusOff sheet) s ram t = no-question (MainFunctionBusOff sheet) (performed L F (MainFunctionBusOff sheet) s ram) refl t
+  mode-answered (TxComplete h) s ram t = no-question (TxComplete h) (performed L F (TxComplete h) s ram) refl t
+  mode-answered (BusOffDetected k) s ram t = no-question (BusOffDetected k) (performed L F (BusOffDetected k) s ram) (and-false (eqb k c)) t
+  mode-answered (FrameArrived sheet k frame) s ram t = no-question (FrameArrived sheet k frame) (performed L F (FrameArrived sheet k frame) s ram) refl t
 
   -- one call
   mode-kept : (call : Call F) (s : State F) (ram : List ℕ) → Valid L F s
-      → ModeKept L F c (entry (control s)) (reference-after L F c (entry (control s)) call (performed L F call s ram)) call (performed L F call s ram)
+      → ModeKept L F c (entry (control s)) (reference-after L F c (entry (control s)) (effect F call (performed L F call s ram))) (effect F call (performed L F call s ram)) (performed L F call s ram)
   mode-kept call s ram v =
       let o = performed L F call s ram in
       let follows = performed-follows call s ram v in
       record {
         in-state = ap (λ (r : Reference). r .mode) (sym follows);
         answered = λ t. mode-answered call s ram t ∙ ap (λ (r : Reference). mode (r .mode)) (sym follows);
-        wish-permitted = λ t. wish-is-permitted s v (right (is-accepted o && is-mode-poll L F call) (takes-wish (entry (control s))) t);
+        wish-permitted = λ t. wish-is-permitted s v (right (is-mode-poll L F (effect F call o)) (takes-wish (entry (control s))) t);
       }
 
   -- any list of calls
@@ -286,7 +295,7 @@ module _ (L : Limits) (F : Format) (c : ℕ) where
   modes-kept lawful (call ∷ calls) s ram r v e =
       rw e (
         mode-kept call s ram (valid-facts L F s v),
-        modes-kept lawful calls (performed L F call s ram .state) (performed L F call s ram .ram) (reference-after L F c (entry (control s)) call (performed L F call s ram))
+        modes-kept lawful calls (performed L F call s ram .state) (performed L F call s ram .ram) (reference-after L F c (entry (control s)) (effect F call (performed L F call s ram)))
             (performed-valid L F lawful call s ram v) (performed-follows call s ram (valid-facts L F s v)),
       )
 
@@ -297,5 +306,5 @@ module _ (L : Limits) (F : Format) (c : ℕ) where
   reference-list lawful [] s ram r v e = e
   reference-list lawful (call ∷ calls) s ram r v e =
       let o = performed L F call s ram in
-      reference-list lawful calls (o .state) (o .ram) (reference-after L F c r call o) (performed-valid L F lawful call s ram v)
-      (ap (λ (x : Reference). reference-after L F c x call o) e ∙ performed-follows call s ram (valid-facts L F s v))
+      reference-list lawful calls (o .state) (o .ram) (reference-after L F c r (effect F call o)) (performed-valid L F lawful call s ram v)
+      (ap (λ (x : Reference). reference-after L F c x (effect F call o)) e ∙ performed-follows call s ram (valid-facts L F s v))

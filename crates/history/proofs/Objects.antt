@@ -26,7 +26,8 @@ use Rattle.rules.specs.Polls.{Boxes, Sweep, Closing, closing-notification, by-s
 use Rattle.rules.specs.Events.{tx-complete, bus-off-detected, frame-arrived, tx-complete-checks, sent-mailbox, filled-mailbox, has-unsent, fits-frame, best-object, on-bus-checks, stored, received, not-stored}
 use Rattle.history.specs.Call.{Call, Init, DeInit, SetControllerMode, GetControllerMode, Write, MainFunctionWrite, MainFunctionRead, MainFunctionMode, MainFunctionBusOff, TxComplete, BusOffDetected, FrameArrived, performed}
 use Rattle.history.specs.Trace.{trace}
-use Rattle.history.specs.Account.{Account, closed, held, broken, after-write, after-sent, after-confirmation, after-cancellation, after-notification, after-notifications, in-force, after-call, compared, account-after, account, intact}
+use Rattle.history.specs.Effect.{Effect, effect}
+use Rattle.history.specs.Account.{Account, closed, held, broken, after-write, after-sent, after-confirmation, after-cancellation, after-notification, after-notifications, in-force, after-effect, compared, account-after, account, intact}
 use Rattle.laws.proofs.Tests.{left, right, clash, decide, cond-both, not-true, not-false}
 use Rattle.laws.proofs.Repeat.{rising-keeps, all-facts, replicate-default}
 use Rattle.laws.proofs.Reasons.{check-passed, front-passed, rest-passed, judged-cases, rejected-code}
@@ -36,6 +37,7 @@ use Rattle.laws.proofs.Sweeps.{set-default}
 use Rattle.laws.proofs.Objects.{same-bytes-refl, object-laid, object-kept}
 use Rattle.laws.proofs.Acceptance.{WritePassed, write-passed}
 use Rattle.laws.proofs.StaysValid.{initial-valid, own-mailbox, pending-facts, chosen-fits}
+use Rattle.history.proofs.Effects.{either-effect}
 use Rattle.history.proofs.Steps.{performed-valid}
 
 -- notifications that close no object
@@ -277,28 +279,17 @@ module _ (L : Limits) (F : Format) (h : ℕ) where
   module _ (s : State F) (v : Valid L F s) (ram : List ℕ) (a : Account) (p : Matches (mailbox-at (s .mailboxes) h) (object-in L F ram h) a) where
     -- the account after the call agrees with what the call left
     abbrev Agrees : Call F → Outcome F → Type 0
-    Agrees call o = Matches (mailbox-at (o .state .mailboxes) h) (object-in L F (o .ram) h) (account-after L F h (s .configuration) a call o)
+    Agrees call o = Matches (mailbox-at (o .state .mailboxes) h) (object-in L F (o .ram) h) (account-after L F h (s .configuration) a (effect F call o) o)
 
-    refused-call : (call : Call F) (report : ℕ → List Notification) (answer : Answer) (r : ℕ) → eqb r 0 ≡ false → after-call L F h (s .configuration) a call (rejected F report answer s ram r) ≡ a
-    refused-call (Write sheet i handle fits frame) report answer r e = rw (rejected-code r e)
-    refused-call (TxComplete i) report answer r e = rw (rejected-code r e)
-    refused-call (Init sheet bytes) report answer r e = refl
-    refused-call (DeInit sheet) report answer r e = refl
-    refused-call (SetControllerMode sheet c asked) report answer r e = refl
-    refused-call (GetControllerMode sheet c) report answer r e = refl
-    refused-call (MainFunctionWrite sheet) report answer r e = refl
-    refused-call (MainFunctionRead sheet) report answer r e = refl
-    refused-call (MainFunctionMode sheet) report answer r e = refl
-    refused-call (MainFunctionBusOff sheet) report answer r e = refl
-    refused-call (BusOffDetected c) report answer r e = refl
-    refused-call (FrameArrived sheet c frame) report answer r e = refl
+    refused-call : (call : Call F) (report : ℕ → List Notification) (answer : Answer) (r : ℕ) → eqb r 0 ≡ false → after-effect L F h (s .configuration) a (effect F call (rejected F report answer s ram r)) ≡ a
+    refused-call call report answer r e = rw (rejected-code r e)
 
     -- a call that is refused, or else accepted and agreeing
     judged-agrees : (call : Call F) (report : ℕ → List Notification) → ((r : ℕ) → after-notifications h a (report r) ≡ a) → (answer : Answer) (r : ℕ) (accept : Outcome F)
         → (r ≡ 0 → Agrees call accept) → Agrees call (judged F r (rejected F report answer s ram) accept)
     judged-agrees call report quiet answer r accept q =
         judged-cases F (Agrees call) r (rejected F report answer s ram) accept
-        (λ e. kept (mailbox-at (s .mailboxes) h) (mailbox-at (s .mailboxes) h) ram ram a (after-call L F h (s .configuration) a call (rejected F report answer s ram r)) (report r) p refl refl (refused-call call report answer r e) (quiet r))
+        (λ e. kept (mailbox-at (s .mailboxes) h) (mailbox-at (s .mailboxes) h) ram ram a (after-effect L F h (s .configuration) a (effect F call (rejected F report answer s ram r))) (report r) p refl refl (refused-call call report answer r e) (quiet r))
         q
 
     service-agrees : (call : Call F) (service : ℕ) (answer : Answer) (r : ℕ) (accept : Outcome F) → (r ≡ 0 → Agrees call accept) → Agrees call (judged F r (rejected F (service-report service) answer s ram) accept)
@@ -309,7 +300,7 @@ module _ (L : Limits) (F : Format) (h : ℕ) where
     event-agrees call r accept q = judged-agrees call no-report (λ r. refl) no-answer r accept q
 
     -- no write is open, before and after, and the call is none of this object's
-    stays-closed : (call : Call F) (o : Outcome F) → after-call L F h (s .configuration) a call o ≡ a → mailbox-at (s .mailboxes) h .tx-pending ≡ false
+    stays-closed : (call : Call F) (o : Outcome F) → after-effect L F h (s .configuration) a (effect F call o) ≡ a → mailbox-at (s .mailboxes) h .tx-pending ≡ false
         → mailbox-at (o .state .mailboxes) h .tx-pending ≡ false → after-notifications h closed (o .notifications) ≡ closed → Agrees call o
     stays-closed call o same free free′ quiet =
         let a-closed = not-held (mailbox-at (s .mailboxes) h) (object-in L F ram h) a p free in
@@ -514,10 +505,10 @@ module _ (L : Limits) (F : Format) (h : ℕ) where
 
   -- the configuration in force is the state's
   judged-force : (call : Call F) (s : State F) (ram : List ℕ) (report : ℕ → List Notification) (answer : Answer) (r : ℕ) (accept : Outcome F)
-      → (eqb r 0 ≡ false → in-force L F (s .configuration) call (rejected F report answer s ram r) ≡ s .configuration) → in-force L F (s .configuration) call accept ≡ accept .state .configuration
-      → in-force L F (s .configuration) call (judged F r (rejected F report answer s ram) accept) ≡ judged F r (rejected F report answer s ram) accept .state .configuration
-  judged-force call s ram report answer r accept refused taken =
-      judged-cases F (λ (o : Outcome F). in-force L F (s .configuration) call o ≡ o .state .configuration) r (rejected F report answer s ram) accept refused (λ e. taken)
+      → in-force L F (s .configuration) (effect F call accept) ≡ accept .state .configuration
+      → in-force L F (s .configuration) (effect F call (judged F r (rejected F report answer s ram) accept)) ≡ judged F r (rejected F report answer s ram) accept .state .configuration
+  judged-force call s ram report answer r accept taken =
+      judged-cases F (λ (o : Outcome F). in-force L F (s .configuration) (effect F call o) ≡ o .state .configuration) r (rejected F report answer s ram) accept (λ e. rw (rejected-code r e)) (λ e. taken)
 
   arrival-force : (s : State F) (ram : List ℕ) (c : ℕ) (frame : F .Frame) (o : Option ℕ) → s .configuration ≡ received L F s ram c frame o .state .configuration
   arrival-force s ram c frame none = go (best-object L F s c frame true)
@@ -527,20 +518,23 @@ module _ (L : Limits) (F : Format) (h : ℕ) where
       go (some i) = refl
   arrival-force s ram c frame (some i) = refl
 
-  performed-force : (call : Call F) (s : State F) (ram : List ℕ) → in-force L F (s .configuration) call (performed L F call s ram) ≡ performed L F call s ram .state .configuration
+  performed-force : (call : Call F) (s : State F) (ram : List ℕ) → in-force L F (s .configuration) (effect F call (performed L F call s ram)) ≡ performed L F call s ram .state .configuration
   unfolding performed init deinit set-controller-mode get-controller-mode write main-function-write main-function-read main-function-mode main-function-bus-off tx-complete bus-off-detected frame-arrived
-  performed-force (Init sheet bytes) s ram = judged-force (Init sheet bytes) s ram (service-report INIT) no-answer _ _ (λ e. rw (rejected-code _ e)) refl
-  performed-force (DeInit sheet) s ram = judged-force (DeInit sheet) s ram (service-report DEINIT) no-answer _ _ (λ e. rw (rejected-code _ e)) refl
-  performed-force (SetControllerMode sheet c asked) s ram = judged-force (SetControllerMode sheet c asked) s ram (service-report SET-CONTROLLER-MODE) no-answer _ _ (λ e. refl) refl
-  performed-force (GetControllerMode sheet c) s ram = judged-force (GetControllerMode sheet c) s ram (service-report GET-CONTROLLER-MODE) (mode 0) _ _ (λ e. refl) refl
-  performed-force (Write sheet i handle fits frame) s ram = judged-force (Write sheet i handle fits frame) s ram (service-report WRITE) no-answer _ _ (λ e. refl) refl
-  performed-force (MainFunctionWrite sheet) s ram = judged-force (MainFunctionWrite sheet) s ram no-report no-answer _ _ (λ e. refl) refl
-  performed-force (MainFunctionRead sheet) s ram = judged-force (MainFunctionRead sheet) s ram no-report no-answer _ _ (λ e. refl) refl
-  performed-force (MainFunctionMode sheet) s ram = judged-force (MainFunctionMode sheet) s ram no-report no-answer _ _ (λ e. refl) refl
-  performed-force (MainFunctionBusOff sheet) s ram = judged-force (MainFunctionBusOff sheet) s ram no-report no-answer _ _ (λ e. refl) refl
-  performed-force (TxComplete i) s ram = judged-force (TxComplete i) s ram no-report no-answer _ _ (λ e. refl) refl
-  performed-force (BusOffDetected c) s ram = judged-force (BusOffDetected c) s ram no-report no-answer _ _ (λ e. refl) refl
-  performed-force (FrameArrived sheet c frame) s ram = judged-force (FrameArrived sheet c frame) s ram no-report no-answer _ _ (λ e. refl) (arrival-force s ram c frame (best-object L F s c frame false))
+  performed-force (Init sheet bytes) s ram = judged-force (Init sheet bytes) s ram (service-report INIT) no-answer _ _ refl
+  performed-force (DeInit sheet) s ram = judged-force (DeInit sheet) s ram (service-report DEINIT) no-answer _ _ refl
+  performed-force (SetControllerMode sheet c asked) s ram = judged-force (SetControllerMode sheet c asked) s ram (service-report SET-CONTROLLER-MODE) no-answer _ _ refl
+  performed-force (GetControllerMode sheet c) s ram = judged-force (GetControllerMode sheet c) s ram (service-report GET-CONTROLLER-MODE) (mode 0) _ _ refl
+  performed-force (Write sheet i handle fits frame) s ram = judged-force (Write sheet i handle fits frame) s ram (service-report WRITE) no-answer _ _ refl
+  performed-force (MainFunctionWrite sheet) s ram = judged-force (MainFunctionWrite sheet) s ram no-report no-answer _ _ refl
+  performed-force (MainFunctionRead sheet) s ram = judged-force (MainFunctionRead sheet) s ram no-report no-answer _ _ refl
+  performed-force (MainFunctionMode sheet) s ram = judged-force (MainFunctionMode sheet) s ram no-report no-answer _ _ refl
+  performed-force (MainFunctionBusOff sheet) s ram = judged-force (MainFunctionBusOff sheet) s ram no-report no-answer _ _ refl
+  performed-force (TxComplete i) s ram = judged-force (TxComplete i) s ram no-report no-answer _ _ refl
+  performed-force (BusOffDetected c) s ram = judged-force (BusOffDetected c) s ram no-report no-answer _ _ refl
+  performed-force (FrameArrived sheet c frame) s ram =
+      let o = received L F s ram c frame (best-object L F s c frame false) in
+      judged-force (FrameArrived sheet c frame) s ram no-report no-answer _ _
+      (let same = arrival-force s ram c frame (best-object L F s c frame false) in either-effect F (λ (e : Effect F). in-force L F (s .configuration) e ≡ o .state .configuration) (FrameArrived sheet c frame) o same same)
 
   -- what holds of an object between two calls
   pub record Follows (s : State F) (ram : List ℕ) (cfg : Configuration F) (a : Account) : Type 0 where
@@ -549,9 +543,9 @@ module _ (L : Limits) (F : Format) (h : ℕ) where
     pub matches : Matches (mailbox-at (s .mailboxes) h) (object-in L F ram h) a
 
   pub follows-on : Lawful L F → (call : Call F) (s : State F) (ram : List ℕ) (cfg : Configuration F) (a : Account) → Follows s ram cfg a
-      → Follows (performed L F call s ram .state) (performed L F call s ram .ram) (in-force L F cfg call (performed L F call s ram)) (account-after L F h cfg a call (performed L F call s ram))
+      → Follows (performed L F call s ram .state) (performed L F call s ram .ram) (in-force L F cfg (effect F call (performed L F call s ram))) (account-after L F h cfg a (effect F call (performed L F call s ram)) (performed L F call s ram))
   follows-on lawful call s ram cfg a f =
-      subst⁻¹ (λ (x : Configuration F). Follows (performed L F call s ram .state) (performed L F call s ram .ram) (in-force L F x call (performed L F call s ram)) (account-after L F h x a call (performed L F call s ram))) (f .force)
+      subst⁻¹ (λ (x : Configuration F). Follows (performed L F call s ram .state) (performed L F call s ram .ram) (in-force L F x (effect F call (performed L F call s ram))) (account-after L F h x a (effect F call (performed L F call s ram)) (performed L F call s ram))) (f .force)
       (record {
         sound = performed-valid L F lawful call s ram (f .sound);
         force = performed-force call s ram;
@@ -563,7 +557,7 @@ module _ (L : Limits) (F : Format) (h : ℕ) where
   unfolding trace account
   account-intact lawful [] s ram cfg a f = matches-intact (mailbox-at (s .mailboxes) h) (object-in L F ram h) a (f .matches)
   account-intact lawful (call ∷ calls) s ram cfg a f =
-      account-intact lawful calls (performed L F call s ram .state) (performed L F call s ram .ram) (in-force L F cfg call (performed L F call s ram)) (account-after L F h cfg a call (performed L F call s ram)) (follows-on lawful call s ram cfg a f)
+      account-intact lawful calls (performed L F call s ram .state) (performed L F call s ram .ram) (in-force L F cfg (effect F call (performed L F call s ram))) (account-after L F h cfg a (effect F call (performed L F call s ram)) (performed L F call s ram)) (follows-on lawful call s ram cfg a f)
 
   -- before initialisation
   pub follows-first : Lawful L F → (ram : List ℕ) → Follows (initial-state L F) ram (no-configuration L F) closed

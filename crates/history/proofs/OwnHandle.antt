@@ -9,13 +9,13 @@ use Rattle.rules.specs.Format.{Format}
 use Rattle.rules.specs.Bytes.{same-bytes}
 use Rattle.rules.specs.Notification.{Notification, tx-confirmation, rx-indication, mode-indication, bus-off-indication, development-error, data-lost, tx-cancellation}
 use Rattle.rules.specs.Configuration.{Configuration, object-at, no-configuration}
-use Rattle.rules.specs.Outcome.{Outcome}
 use Rattle.rules.specs.Polls.{object-in}
-use Rattle.history.specs.Call.{Call, Init, DeInit, SetControllerMode, GetControllerMode, Write, MainFunctionWrite, MainFunctionRead, MainFunctionMode, MainFunctionBusOff, TxComplete, BusOffDetected, FrameArrived}
-use Rattle.history.specs.Trace.{Step, is-accepted}
-use Rattle.history.specs.Account.{Account, closed, held, broken, after-write, after-sent, after-confirmation, after-cancellation, after-notification, after-notifications, is-taken-by, in-force, after-call, compared, account-after, account}
+use Rattle.history.specs.Call.{Call}
+use Rattle.history.specs.Trace.{Step}
+use Rattle.history.specs.Effect.{AtObject, written, completed, Effect, nothing, configuring, at-object, at-controller, polling, effect-of}
+use Rattle.history.specs.Account.{Account, closed, held, broken, after-write, after-sent, after-confirmation, after-cancellation, after-notification, after-notifications, in-force, after-own, after-effect, compared, account-after, account}
 use Rattle.history.specs.Claim.{history}
-use Rattle.history.specs.PollRule.{handle-after, own-handle}
+use Rattle.history.specs.PollRule.{handle-of, handle-after, own-handle}
 use Rattle.laws.proofs.Tests.{cond-both}
 
 module _ (L : Limits) (F : Format) (h : ℕ) where
@@ -70,32 +70,30 @@ module _ (L : Limits) (F : Format) (h : ℕ) where
   owned-sent k (held j b sent) p = cond-both (λ (x : Account). Owned x k) sent broken (held j b true) (λ t. tt) (λ t. p)
   owned-sent k broken p = tt
 
-  owned-call : (cfg : Configuration F) (k : ℕ) (a : Account) (call : Call F) (o : Outcome F) → Owned a k → Owned (after-call L F h cfg a call o) (handle-after L F h k call o)
-  owned-call cfg k a (Write sheet i handle fits frame) o p = go (is-accepted o && is-taken-by h (o .answer))
+  owned-own : (cfg : Configuration F) (k : ℕ) (a : Account) (x : AtObject F) → Owned a k → Owned (after-own L F h cfg a x) (handle-of L F k x)
+  owned-own cfg k a (written handle frame) p = owned-write handle (F .object-bytes (object-at L F cfg h .settings) handle frame) a
+  owned-own cfg k a completed p = owned-sent k a p
+
+  owned-effect : (cfg : Configuration F) (k : ℕ) (a : Account) (e : Effect F) → Owned a k → Owned (after-effect L F h cfg a e) (handle-after L F h k e)
+  owned-effect cfg k a (at-object i x) p = go (eqb i h)
     where
-      go : (t : Bool) → Owned (cond t (after-write handle (F .object-bytes (object-at L F cfg h .settings) handle frame) a) a) (cond t handle k)
-      go true = owned-write handle (F .object-bytes (object-at L F cfg h .settings) handle frame) a
+      go : (t : Bool) → Owned (cond t (after-own L F h cfg a x) a) (cond t (handle-of L F k x) k)
+      go true = owned-own cfg k a x p
       go false = p
-  owned-call cfg k a (TxComplete i) o p = cond-both (λ (x : Account). Owned x k) (is-accepted o && eqb i h) (after-sent a) a (λ t. owned-sent k a p) (λ t. p)
-  owned-call cfg k a (Init sheet bytes) o p = p
-  owned-call cfg k a (DeInit sheet) o p = p
-  owned-call cfg k a (SetControllerMode sheet c asked) o p = p
-  owned-call cfg k a (GetControllerMode sheet c) o p = p
-  owned-call cfg k a (MainFunctionWrite sheet) o p = p
-  owned-call cfg k a (MainFunctionRead sheet) o p = p
-  owned-call cfg k a (MainFunctionMode sheet) o p = p
-  owned-call cfg k a (MainFunctionBusOff sheet) o p = p
-  owned-call cfg k a (BusOffDetected c) o p = p
-  owned-call cfg k a (FrameArrived sheet c frame) o p = p
+  owned-effect cfg k a nothing p = p
+  owned-effect cfg k a (configuring x) p = p
+  owned-effect cfg k a (at-controller c x) p = p
+  owned-effect cfg k a (polling x) p = p
 
   owned-list : (xs : List (Step F)) (cfg : Configuration F) (k : ℕ) (a : Account) → Owned a k → Owned (account L F h cfg a xs) (own-handle L F h k xs)
   unfolding account own-handle
   owned-list [] cfg k a p = p
   owned-list (x ∷ xs) cfg k a p =
       let o = x .outcome in
-      let next = handle-after L F h k (x .call) o in
-      owned-list xs (in-force L F cfg (x .call) o) next (account-after L F h cfg a (x .call) o)
-      (owned-notifications next _ (o .notifications) (owned-compared next (o .ram) (after-call L F h cfg a (x .call) o) (owned-call cfg k a (x .call) o p)))
+      let e = effect-of F x in
+      let next = handle-after L F h k e in
+      owned-list xs (in-force L F cfg e) next (account-after L F h cfg a e o)
+      (owned-notifications next _ (o .notifications) (owned-compared next (o .ram) (after-effect L F h cfg a e) (owned-effect cfg k a e p)))
 
   -- the write that is open at the end of a history is the last accepted one
   pub own-handle-held : (calls : List (Call F)) (ram : List ℕ) (k : ℕ) (b : List ℕ) (sent : Bool) → account L F h (no-configuration L F) closed (history L F calls ram) ≡ held k b sent

@@ -1,7 +1,7 @@
 -- The poll rule: an accepted write poll confirms a sent object with its own write's handle, if nothing closed it first.
 use Prim.Native.Nat.{ℕ, zero, suc, _<_}
 use mathlib.Core.Path.{_≡_, refl, ap, sym, _∙_, subst}
-use mathlib.Core.Bool.{Bool, true, false, cond, _&&_}
+use mathlib.Core.Bool.{Bool, true, false, cond}
 use mathlib.Core.List.{List, [], _∷_, _++_}
 use mathlib.Core.Logic.{_⊎_, inl, inr, ⊎-elim}
 use native.Mathlib.Omega.{arith}
@@ -13,16 +13,17 @@ use Rattle.rules.specs.Limits.{Limits}
 use Rattle.rules.specs.Format.{Format, Lawful}
 use Rattle.rules.specs.Repeat.{rising}
 use Rattle.rules.specs.Bytes.{same-bytes}
-use Rattle.rules.specs.Reason.{E-OK, first-reason, return-code}
+use Rattle.rules.specs.Reason.{first-reason}
 use Rattle.rules.specs.Notification.{Notification, tx-confirmation, rx-indication, mode-indication, bus-off-indication, development-error, data-lost, tx-cancellation}
-use Rattle.rules.specs.Configuration.{Configuration, object-at, configuration-of, no-configuration}
+use Rattle.rules.specs.Configuration.{Configuration, object-at, no-configuration}
 use Rattle.rules.specs.State.{Mailbox, State, initial-state, empty-mailbox, idle-controller, mailbox-at, controller-at}
-use Rattle.rules.specs.Outcome.{Outcome, full-gate}
-use Rattle.rules.specs.Services.{init, deinit, init-checks, deinit-checks}
+use Rattle.rules.specs.Outcome.{Outcome, Answer, no-answer, service-report, rejected, judged, full-gate}
+use Rattle.rules.specs.Services.{init, deinit, INIT, DEINIT}
 use Rattle.rules.specs.Polls.{Boxes, by-sent, object-in, close, confirm-one, boxes-of, confirmed, main-function-write}
 use Rattle.history.specs.Call.{Call, Init, DeInit, SetControllerMode, GetControllerMode, Write, MainFunctionWrite, MainFunctionRead, MainFunctionMode, MainFunctionBusOff, TxComplete, BusOffDetected, FrameArrived, performed}
 use Rattle.history.specs.Trace.{trace, left-by, is-accepted}
-use Rattle.history.specs.Account.{Account, closed, held, broken, after-sent, after-notification, after-notifications, is-taken-by, in-force, force-by, after-call, compared, account-after, account}
+use Rattle.history.specs.Effect.{AtObject, written, completed, Effect, nothing, configuring, at-object, at-controller, polling, accepted-effect, effect}
+use Rattle.history.specs.Account.{Account, closed, held, broken, after-sent, after-notification, after-notifications, in-force, force-by, after-own, after-effect, compared, account-after, account}
 use Rattle.history.specs.Reference.{entry, Reference, at-first, reference-after}
 use Rattle.history.specs.PollRule.{Reported, NoneCame, own-handle, own-controller, PollRule}
 use Rattle.history.specs.Operators.{closes, closed-in}
@@ -33,6 +34,7 @@ use Rattle.laws.proofs.Validity.{valid-facts}
 use Rattle.laws.proofs.Sweeps.{boxes-above}
 use Rattle.laws.proofs.Cancelling.{confirm-step}
 use Rattle.laws.proofs.StaysValid.{initial-valid}
+use Rattle.history.proofs.Effects.{either-effect, either-object}
 use Rattle.history.proofs.Modes.{performed-follows, reference-list}
 use Rattle.history.proofs.Objects.{Matches, Follows, follows-on, follows-first, unused-empty}
 use Rattle.history.proofs.OwnHandle.{own-handle-held}
@@ -67,28 +69,20 @@ reported-last n (x ∷ xs) = inr (reported-last n xs)
 
 module _ (L : Limits) (F : Format) (h : ℕ) where
   -- a write that is open and sent stays so, or the account breaks
-  call-of-held : (cfg : Configuration F) (k : ℕ) (b : List ℕ) (call : Call F) (o : Outcome F)
-      → (after-call L F h cfg (held k b true) call o ≡ held k b true) ⊎ (after-call L F h cfg (held k b true) call o ≡ broken)
-  call-of-held cfg k b (Write sheet i handle fits frame) o = go (is-accepted o && is-taken-by h (o .answer))
+  own-of-held : (cfg : Configuration F) (k : ℕ) (b : List ℕ) (x : AtObject F) → after-own L F h cfg (held k b true) x ≡ broken
+  own-of-held cfg k b (written handle frame) = refl
+  own-of-held cfg k b completed = refl
+
+  effect-of-held : (cfg : Configuration F) (k : ℕ) (b : List ℕ) (e : Effect F) → (after-effect L F h cfg (held k b true) e ≡ held k b true) ⊎ (after-effect L F h cfg (held k b true) e ≡ broken)
+  effect-of-held cfg k b (at-object i x) = go (eqb i h)
     where
-      go : (t : Bool) → (cond t broken (held k b true) ≡ held k b true) ⊎ (cond t broken (held k b true) ≡ broken)
-      go true = inr refl
+      go : (t : Bool) → (cond t (after-own L F h cfg (held k b true) x) (held k b true) ≡ held k b true) ⊎ (cond t (after-own L F h cfg (held k b true) x) (held k b true) ≡ broken)
+      go true = inr (own-of-held cfg k b x)
       go false = inl refl
-  call-of-held cfg k b (TxComplete i) o = go (is-accepted o && eqb i h)
-    where
-      go : (t : Bool) → (cond t broken (held k b true) ≡ held k b true) ⊎ (cond t broken (held k b true) ≡ broken)
-      go true = inr refl
-      go false = inl refl
-  call-of-held cfg k b (Init sheet bytes) o = inl refl
-  call-of-held cfg k b (DeInit sheet) o = inl refl
-  call-of-held cfg k b (SetControllerMode sheet c asked) o = inl refl
-  call-of-held cfg k b (GetControllerMode sheet c) o = inl refl
-  call-of-held cfg k b (MainFunctionWrite sheet) o = inl refl
-  call-of-held cfg k b (MainFunctionRead sheet) o = inl refl
-  call-of-held cfg k b (MainFunctionMode sheet) o = inl refl
-  call-of-held cfg k b (MainFunctionBusOff sheet) o = inl refl
-  call-of-held cfg k b (BusOffDetected c) o = inl refl
-  call-of-held cfg k b (FrameArrived sheet c frame) o = inl refl
+  effect-of-held cfg k b nothing = inl refl
+  effect-of-held cfg k b (configuring x) = inl refl
+  effect-of-held cfg k b (at-controller c x) = inl refl
+  effect-of-held cfg k b (polling x) = inl refl
 
   compared-held : (ram : List ℕ) (k : ℕ) (b : List ℕ) → (compared L F h ram (held k b true) ≡ held k b true) ⊎ (compared L F h ram (held k b true) ≡ broken)
   compared-held ram k b = go (same-bytes (object-in L F ram h) b)
@@ -101,24 +95,24 @@ module _ (L : Limits) (F : Format) (h : ℕ) where
   not-broken : (m : Mailbox) (bytes : List ℕ) (a : Account) → Matches L F h m bytes a → a ≡ broken → ⊥
   not-broken m bytes a p e = subst (λ (x : Account). Matches L F h m bytes x) e p
 
-  module _ (s : State F) (ram : List ℕ) (call : Call F) (o : Outcome F) (unchanged : closed-in h (o .notifications) ≡ false) where
+  module _ (e : Effect F) (o : Outcome F) (unchanged : closed-in h (o .notifications) ≡ false) where
     -- a sent write stays held
-    held-stays : (cfg : Configuration F) (k : ℕ) (b : List ℕ) → Matches L F h (mailbox-at (o .state .mailboxes) h) (object-in L F (o .ram) h) (account-after L F h cfg (held k b true) call o)
-        → account-after L F h cfg (held k b true) call o ≡ held k b true
-    held-stays cfg k b p = go (call-of-held cfg k b call o) (compared-held (o .ram) k b)
+    held-stays : (cfg : Configuration F) (k : ℕ) (b : List ℕ) → Matches L F h (mailbox-at (o .state .mailboxes) h) (object-in L F (o .ram) h) (account-after L F h cfg (held k b true) e o)
+        → account-after L F h cfg (held k b true) e o ≡ held k b true
+    held-stays cfg k b p = go (effect-of-held cfg k b e) (compared-held (o .ram) k b)
       where
-        flat : account-after L F h cfg (held k b true) call o ≡ compared L F h (o .ram) (after-call L F h cfg (held k b true) call o)
-        flat = unclosed h (o .notifications) (compared L F h (o .ram) (after-call L F h cfg (held k b true) call o)) unchanged
+        flat : account-after L F h cfg (held k b true) e o ≡ compared L F h (o .ram) (after-effect L F h cfg (held k b true) e)
+        flat = unclosed h (o .notifications) (compared L F h (o .ram) (after-effect L F h cfg (held k b true) e)) unchanged
 
-        breaks : account-after L F h cfg (held k b true) call o ≡ broken → account-after L F h cfg (held k b true) call o ≡ held k b true
-        breaks e = absurd (not-broken (mailbox-at (o .state .mailboxes) h) (object-in L F (o .ram) h) (account-after L F h cfg (held k b true) call o) p e)
+        breaks : account-after L F h cfg (held k b true) e o ≡ broken → account-after L F h cfg (held k b true) e o ≡ held k b true
+        breaks wrong = absurd (not-broken (mailbox-at (o .state .mailboxes) h) (object-in L F (o .ram) h) (account-after L F h cfg (held k b true) e o) p wrong)
 
-        go : (after-call L F h cfg (held k b true) call o ≡ held k b true) ⊎ (after-call L F h cfg (held k b true) call o ≡ broken)
+        go : (after-effect L F h cfg (held k b true) e ≡ held k b true) ⊎ (after-effect L F h cfg (held k b true) e ≡ broken)
             → (compared L F h (o .ram) (held k b true) ≡ held k b true) ⊎ (compared L F h (o .ram) (held k b true) ≡ broken)
-            → account-after L F h cfg (held k b true) call o ≡ held k b true
-        go (inl e) (inl f) = flat ∙ ap (λ (x : Account). compared L F h (o .ram) x) e ∙ f
-        go (inl e) (inr f) = breaks (flat ∙ ap (λ (x : Account). compared L F h (o .ram) x) e ∙ f)
-        go (inr e) f = breaks (flat ∙ ap (λ (x : Account). compared L F h (o .ram) x) e)
+            → account-after L F h cfg (held k b true) e o ≡ held k b true
+        go (inl u) (inl f) = flat ∙ ap (λ (x : Account). compared L F h (o .ram) x) u ∙ f
+        go (inl u) (inr f) = breaks (flat ∙ ap (λ (x : Account). compared L F h (o .ram) x) u ∙ f)
+        go (inr u) f = breaks (flat ∙ ap (λ (x : Account). compared L F h (o .ram) x) u)
 
   -- an accepted sent event leaves a write held and sent
   pub record Held (a : Account) : Type 0 where
@@ -126,21 +120,18 @@ module _ (L : Limits) (F : Format) (h : ℕ) where
     pub bytes : List ℕ
     pub is : a ≡ held handle bytes true
 
-  sent-holds : (cfg : Configuration F) (a : Account) (o : Outcome F) → closed-in h (o .notifications) ≡ false → is-accepted o ≡ true
-      → Matches L F h (mailbox-at (o .state .mailboxes) h) (object-in L F (o .ram) h) (account-after L F h cfg a (TxComplete h) o) → Held (account-after L F h cfg a (TxComplete h) o)
-  sent-holds cfg a o unchanged ok p = go a (flat ∙ ap (λ (t : Bool). compared L F h (o .ram) (cond t (after-sent a) a)) taken) p
+  sent-holds : (cfg : Configuration F) (a : Account) (o : Outcome F) → closed-in h (o .notifications) ≡ false
+      → Matches L F h (mailbox-at (o .state .mailboxes) h) (object-in L F (o .ram) h) (account-after L F h cfg a (at-object h completed) o) → Held (account-after L F h cfg a (at-object h completed) o)
+  sent-holds cfg a o unchanged p = go a (flat ∙ ap (λ (t : Bool). compared L F h (o .ram) (cond t (after-sent a) a)) (eq-eqb h h refl)) p
     where
-      flat : account-after L F h cfg a (TxComplete h) o ≡ compared L F h (o .ram) (cond (is-accepted o && eqb h h) (after-sent a) a)
-      flat = unclosed h (o .notifications) (compared L F h (o .ram) (cond (is-accepted o && eqb h h) (after-sent a) a)) unchanged
+      flat : account-after L F h cfg a (at-object h completed) o ≡ compared L F h (o .ram) (cond (eqb h h) (after-sent a) a)
+      flat = unclosed h (o .notifications) (compared L F h (o .ram) (cond (eqb h h) (after-sent a) a)) unchanged
 
-      taken : (is-accepted o && eqb h h) ≡ true
-      taken = rw (ok, eq-eqb h h refl)
+      fails : account-after L F h cfg a (at-object h completed) o ≡ broken → Matches L F h (mailbox-at (o .state .mailboxes) h) (object-in L F (o .ram) h) (account-after L F h cfg a (at-object h completed) o) → Held (account-after L F h cfg a (at-object h completed) o)
+      fails e q = absurd (not-broken (mailbox-at (o .state .mailboxes) h) (object-in L F (o .ram) h) (account-after L F h cfg a (at-object h completed) o) q e)
 
-      fails : account-after L F h cfg a (TxComplete h) o ≡ broken → Matches L F h (mailbox-at (o .state .mailboxes) h) (object-in L F (o .ram) h) (account-after L F h cfg a (TxComplete h) o) → Held (account-after L F h cfg a (TxComplete h) o)
-      fails e q = absurd (not-broken (mailbox-at (o .state .mailboxes) h) (object-in L F (o .ram) h) (account-after L F h cfg a (TxComplete h) o) q e)
-
-      go : (x : Account) → account-after L F h cfg a (TxComplete h) o ≡ compared L F h (o .ram) (after-sent x)
-          → Matches L F h (mailbox-at (o .state .mailboxes) h) (object-in L F (o .ram) h) (account-after L F h cfg a (TxComplete h) o) → Held (account-after L F h cfg a (TxComplete h) o)
+      go : (x : Account) → account-after L F h cfg a (at-object h completed) o ≡ compared L F h (o .ram) (after-sent x)
+          → Matches L F h (mailbox-at (o .state .mailboxes) h) (object-in L F (o .ram) h) (account-after L F h cfg a (at-object h completed) o) → Held (account-after L F h cfg a (at-object h completed) o)
       go closed e q = fails e q
       go broken e q = fails e q
       go (held k b true) e q = fails e q
@@ -159,31 +150,36 @@ module _ (L : Limits) (F : Format) (h : ℕ) where
   account-append [] ys s ram cfg a = refl
   account-append (x ∷ xs) ys s ram cfg a = account-append xs ys (performed L F x s ram .state) (performed L F x s ram .ram) _ _
 
-  refused : (new cfg : Configuration F) (r : ℕ) → eqb r 0 ≡ false → cond (eqb (return-code r) E-OK) new cfg ≡ cfg
-  refused new cfg r e = rw (rejected-code r e)
+  -- a call that puts no configuration in force, accepted or not
+  kept-force : (call : Call F) (o : Outcome F) (cfg : Configuration F) → in-force L F cfg (accepted-effect F call (o .answer)) ≡ cfg → in-force L F cfg (effect F call o) ≡ cfg
+  kept-force call o cfg e = either-effect F (λ (x : Effect F). in-force L F cfg x ≡ cfg) call o e refl
+
+  -- one that leaves nothing pending where it is accepted
+  cleared : (call : Call F) (s : State F) (ram : List ℕ) (cfg : Configuration F) (report : ℕ → List Notification) (answer : Answer) (r : ℕ) (accept : Outcome F) → mailbox-at (accept .state .mailboxes) h .tx-pending ≡ false
+      → mailbox-at (judged F r (rejected F report answer s ram) accept .state .mailboxes) h .tx-pending ≡ true → in-force L F cfg (effect F call (judged F r (rejected F report answer s ram) accept)) ≡ cfg
+  cleared call s ram cfg report answer r accept free =
+      judged-cases F (λ (o : Outcome F). mailbox-at (o .state .mailboxes) h .tx-pending ≡ true → in-force L F cfg (effect F call o) ≡ cfg) r (rejected F report answer s ram) accept
+      (λ e p. rw (rejected-code r e)) (λ e p. clash p free)
 
   -- a call that leaves a frame pending leaves the configuration
   same-force : (call : Call F) (s : State F) (ram : List ℕ) (cfg : Configuration F) → mailbox-at (performed L F call s ram .state .mailboxes) h .tx-pending ≡ true
-      → in-force L F cfg call (performed L F call s ram) ≡ cfg
+      → in-force L F cfg (effect F call (performed L F call s ram)) ≡ cfg
   unfolding performed init deinit
   same-force (Init sheet bytes) s ram cfg pending =
-      judged-cases F (λ (o : Outcome F). mailbox-at (o .state .mailboxes) h .tx-pending ≡ true → in-force L F cfg (Init sheet bytes) o ≡ cfg) (first-reason (full-gate L F s (length sheet) ram ++ init-checks L F s bytes)) _ _
-      (λ e p. refused (configuration-of L F bytes) cfg (first-reason (full-gate L F s (length sheet) ram ++ init-checks L F s bytes)) e)
-      (λ r p. clash p (ap (λ (m : Mailbox). m .tx-pending) (replicate-default (L .objects) h empty-mailbox))) pending
+      cleared (Init sheet bytes) s ram cfg (service-report INIT) no-answer _ _ (ap (λ (m : Mailbox). m .tx-pending) (replicate-default (L .objects) h empty-mailbox)) pending
   same-force (DeInit sheet) s ram cfg pending =
-      judged-cases F (λ (o : Outcome F). mailbox-at (o .state .mailboxes) h .tx-pending ≡ true → in-force L F cfg (DeInit sheet) o ≡ cfg) (first-reason (full-gate L F s (length sheet) ram ++ deinit-checks L F s)) _ _
-      (λ e p. refused (no-configuration L F) cfg (first-reason (full-gate L F s (length sheet) ram ++ deinit-checks L F s)) e)
-      (λ r p. clash p (ap (λ (m : Mailbox). m .tx-pending) (replicate-default (L .objects) h empty-mailbox))) pending
-  same-force (SetControllerMode sheet c asked) s ram cfg pending = refl
-  same-force (GetControllerMode sheet c) s ram cfg pending = refl
-  same-force (Write sheet i handle fits frame) s ram cfg pending = refl
-  same-force (MainFunctionWrite sheet) s ram cfg pending = refl
-  same-force (MainFunctionRead sheet) s ram cfg pending = refl
-  same-force (MainFunctionMode sheet) s ram cfg pending = refl
-  same-force (MainFunctionBusOff sheet) s ram cfg pending = refl
-  same-force (TxComplete i) s ram cfg pending = refl
-  same-force (BusOffDetected c) s ram cfg pending = refl
-  same-force (FrameArrived sheet c frame) s ram cfg pending = refl
+      cleared (DeInit sheet) s ram cfg (service-report DEINIT) no-answer _ _ (ap (λ (m : Mailbox). m .tx-pending) (replicate-default (L .objects) h empty-mailbox)) pending
+  same-force (SetControllerMode sheet c asked) s ram cfg pending = kept-force (SetControllerMode sheet c asked) (performed L F (SetControllerMode sheet c asked) s ram) cfg refl
+  same-force (GetControllerMode sheet c) s ram cfg pending = kept-force (GetControllerMode sheet c) (performed L F (GetControllerMode sheet c) s ram) cfg refl
+  same-force (Write sheet i handle fits frame) s ram cfg pending =
+      kept-force (Write sheet i handle fits frame) (performed L F (Write sheet i handle fits frame) s ram) cfg (either-object F (λ (x : Effect F). in-force L F cfg x ≡ cfg) (performed L F (Write sheet i handle fits frame) s ram .answer) (written handle frame) (λ j. refl) refl)
+  same-force (MainFunctionWrite sheet) s ram cfg pending = kept-force (MainFunctionWrite sheet) (performed L F (MainFunctionWrite sheet) s ram) cfg refl
+  same-force (MainFunctionRead sheet) s ram cfg pending = kept-force (MainFunctionRead sheet) (performed L F (MainFunctionRead sheet) s ram) cfg refl
+  same-force (MainFunctionMode sheet) s ram cfg pending = kept-force (MainFunctionMode sheet) (performed L F (MainFunctionMode sheet) s ram) cfg refl
+  same-force (MainFunctionBusOff sheet) s ram cfg pending = kept-force (MainFunctionBusOff sheet) (performed L F (MainFunctionBusOff sheet) s ram) cfg refl
+  same-force (TxComplete i) s ram cfg pending = kept-force (TxComplete i) (performed L F (TxComplete i) s ram) cfg refl
+  same-force (BusOffDetected c) s ram cfg pending = kept-force (BusOffDetected c) (performed L F (BusOffDetected c) s ram) cfg refl
+  same-force (FrameArrived sheet c frame) s ram cfg pending = kept-force (FrameArrived sheet c frame) (performed L F (FrameArrived sheet c frame) s ram) cfg refl
 
   -- calls that are none of the three keep a sent write held; c is the object's controller, and r its entry in the reference modes
   held-list : Lawful L F → (calls : List (Call F)) (s : State F) (ram : List ℕ) (cfg : Configuration F) (k : ℕ) (b : List ℕ) (c : ℕ) (r : Reference)
@@ -196,11 +192,11 @@ module _ (L : Limits) (F : Format) (h : ℕ) where
       let next = follows-on L F h lawful call s ram cfg (held k b true) f in
       let here = subst (λ (x : Reference). NoneCame L F c x (trace L F (call ∷ calls) s ram)) e none-came in
       let quiet = performed-quiet L F h call s ram c (ap (λ (x : Configuration F). object-at L F x h .controller) (sym (f .force)) ∙ own) (here .0) in
-      let same = held-stays s ram call o quiet cfg k b (next .matches) in
-      let next-held : Follows L F h (o .state) (o .ram) (in-force L F cfg call o) (held k b true) = subst (λ (x : Account). Follows L F h (o .state) (o .ram) (in-force L F cfg call o) x) same next in
+      let same = held-stays (effect F call o) o quiet cfg k b (next .matches) in
+      let next-held : Follows L F h (o .state) (o .ram) (in-force L F cfg (effect F call o)) (held k b true) = subst (λ (x : Account). Follows L F h (o .state) (o .ram) (in-force L F cfg (effect F call o)) x) same next in
       let still = ap (λ (x : Configuration F). object-at L F x h .controller) (same-force call s ram cfg (next-held .matches .0)) ∙ own in
-      ap (λ (x : Account). account L F h (in-force L F cfg call o) x (trace L F calls (o .state) (o .ram))) same
-      ∙ held-list lawful calls (o .state) (o .ram) (in-force L F cfg call o) k b c (reference-after L F c (entry (controller-at (s .controllers) c)) call o)
+      ap (λ (x : Account). account L F h (in-force L F cfg (effect F call o)) x (trace L F calls (o .state) (o .ram))) same
+      ∙ held-list lawful calls (o .state) (o .ram) (in-force L F cfg (effect F call o)) k b c (reference-after L F c (entry (controller-at (s .controllers) c)) (effect F call o))
       next-held still (performed-follows L F c call s ram (valid-facts L F s (f .sound))) (here .1)
 
   -- a write poll confirms every sent object
@@ -264,9 +260,11 @@ module _ (L : Limits) (F : Format) (h : ℕ) where
       let o = performed L F (TxComplete h) s ram in
       let next = follows-on L F h lawful (TxComplete h) s ram cfg a start in
       let quiet = performed-quiet L F h (TxComplete h) s ram c (ap (λ (x : Configuration F). object-at L F x h .controller) (sym (start .force))) (none-came .0) in
-      let now = sent-holds cfg a o quiet sent (next .matches) in
-      let f : Follows L F h (o .state) (o .ram) cfg (held (now .handle) (now .bytes) true) = subst (λ (x : Account). Follows L F h (o .state) (o .ram) cfg x) (now .is) next in
-      let stays = held-list lawful between (o .state) (o .ram) cfg (now .handle) (now .bytes) c (reference-after L F c (entry (controller-at (s .controllers) c)) (TxComplete h) o) f refl
+      let is-sent : effect F (TxComplete h) o ≡ at-object h completed = rw sent in
+      let at-once : Follows L F h (o .state) (o .ram) cfg (account-after L F h cfg a (at-object h completed) o) = subst (λ (e : Effect F). Follows L F h (o .state) (o .ram) (in-force L F cfg e) (account-after L F h cfg a e o)) is-sent next in
+      let now = sent-holds cfg a o quiet (at-once .matches) in
+      let f : Follows L F h (o .state) (o .ram) cfg (held (now .handle) (now .bytes) true) = subst (λ (x : Account). Follows L F h (o .state) (o .ram) cfg x) (now .is) at-once in
+      let stays = held-list lawful between (o .state) (o .ram) cfg (now .handle) (now .bytes) c (reference-after L F c (entry (controller-at (s .controllers) c)) (effect F (TxComplete h) o)) f refl
       (performed-follows L F c (TxComplete h) s ram (valid-facts L F s (start .sound))) (none-came .1) in
       let last = follows-list lawful between (o .state) (o .ram) cfg (held (now .handle) (now .bytes) true) f in
       let at-poll = left-by L F between (o .state) (o .ram) in
@@ -275,7 +273,9 @@ module _ (L : Limits) (F : Format) (h : ℕ) where
       record {
         handle = now .handle;
         bytes = now .bytes;
-        is-held = ap (λ (x : Account). account L F h cfg x (trace L F between (o .state) (o .ram))) (now .is) ∙ stays;
+        is-held =
+            ap (λ (e : Effect F). account L F h (in-force L F cfg e) (account-after L F h cfg a e o) (trace L F between (o .state) (o .ram))) is-sent
+            ∙ ap (λ (x : Account). account L F h cfg x (trace L F between (o .state) (o .ram))) (now .is) ∙ stays;
         reported = poll-reports (at-poll .state) (at-poll .ram) (force-by L F cfg (trace L F between (o .state) (o .ram))) (now .handle) (now .bytes) sheet g polled;
       }
 

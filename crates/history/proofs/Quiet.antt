@@ -2,7 +2,7 @@
 -- controller marked.
 use Prim.Native.Nat.{ℕ}
 use mathlib.Core.Path.{_≡_, refl, sym, _∙_, subst}
-use mathlib.Core.Bool.{Bool, true, false, _&&_}
+use mathlib.Core.Bool.{Bool, true, false}
 use mathlib.Core.List.{List, [], _∷_}
 use mathlib.Core.Option.{Option, none, some}
 use Rattle.rules.specs.Limits.{Limits}
@@ -18,7 +18,7 @@ use Rattle.rules.specs.Polls.{Boxes, indicate-one, boxes-of, sweep-of, indicate
 use Rattle.rules.specs.Events.{tx-complete, bus-off-detected, frame-arrived, best-object, received, not-stored}
 use Rattle.history.specs.Call.{Call, Init, DeInit, SetControllerMode, GetControllerMode, Write, MainFunctionWrite, MainFunctionRead, MainFunctionMode, MainFunctionBusOff, TxComplete, BusOffDetected, FrameArrived, performed}
 use Rattle.history.specs.Reference.{entry}
-use Rattle.history.specs.Trace.{is-accepted}
+use Rattle.history.specs.Effect.{effect}
 use Rattle.history.specs.PollRule.{closes-sent}
 use Rattle.history.specs.Operators.{closed-in}
 use Rattle.laws.proofs.Tests.{clash, cond-both}
@@ -73,7 +73,7 @@ module _ (L : Limits) (F : Format) (h : ℕ) where
 
   -- a call that returns 0 and closes sent objects of controller c is one of the three
   pub performed-quiet : (call : Call F) (s : State F) (ram : List ℕ) (c : ℕ) → object-at L F (s .configuration) h .controller ≡ c
-      → (is-accepted (performed L F call s ram) && closes-sent L F (entry (controller-at (s .controllers) c)) call) ≡ false → Quiet (performed L F call s ram)
+      → closes-sent L F (entry (controller-at (s .controllers) c)) (effect F call (performed L F call s ram)) ≡ false → Quiet (performed L F call s ram)
   unfolding performed init deinit set-controller-mode get-controller-mode write main-function-write main-function-read main-function-mode main-function-bus-off tx-complete bus-off-detected frame-arrived indicated closed-in
   performed-quiet (Init sheet bytes) s ram c own none-came = service-quiet INIT no-answer s ram _ _ refl
   performed-quiet (DeInit sheet) s ram c own none-came = service-quiet DEINIT no-answer s ram _ _ refl
@@ -87,8 +87,8 @@ module _ (L : Limits) (F : Format) (h : ℕ) where
   performed-quiet (MainFunctionRead sheet) s ram c own none-came =
       judged-either F Quiet _ _ _ refl (λ r. indicated-open ram (s .configuration .object-count) (boxes-of L F s) refl)
   performed-quiet (MainFunctionWrite sheet) s ram c own none-came =
-      judged-cases F (λ (o : Outcome F). (is-accepted o && true) ≡ false → Quiet o) _ _ _ (λ e n. refl) (λ r n. clash refl n) none-came
+      judged-cases F (λ (o : Outcome F). closes-sent L F (entry (controller-at (s .controllers) c)) (effect F (MainFunctionWrite sheet) o) ≡ false → Quiet o) _ _ _ (λ e n. refl) (λ r n. clash refl n) none-came
   performed-quiet (MainFunctionMode sheet) s ram c own none-came =
-      judged-cases F (λ (o : Outcome F). (is-accepted o && stopping (controller-at (s .controllers) c)) ≡ false → Quiet o) _ _ _ (λ e n. refl) (λ r n. modes-leave s ram c own n .unclosed) none-came
+      judged-cases F (λ (o : Outcome F). closes-sent L F (entry (controller-at (s .controllers) c)) (effect F (MainFunctionMode sheet) o) ≡ false → Quiet o) _ _ _ (λ e n. refl) (λ r n. modes-leave s ram c own n .unclosed) none-came
   performed-quiet (MainFunctionBusOff sheet) s ram c own none-came =
-      judged-cases F (λ (o : Outcome F). (is-accepted o && controller-at (s .controllers) c .bus-off) ≡ false → Quiet o) _ _ _ (λ e n. refl) (λ r n. buses-off-leave s ram c own n .unclosed) none-came
+      judged-cases F (λ (o : Outcome F). closes-sent L F (entry (controller-at (s .controllers) c)) (effect F (MainFunctionBusOff sheet) o) ≡ false → Quiet o) _ _ _ (λ e n. refl) (λ r n. buses-off-leave s ram c own n .unclosed) none-came

@@ -1,5 +1,5 @@
 -- The account of one object: what its accepted writes, sent events and closing notices must look like.
--- It is fed calls, return codes, answers, records and memory, and never sees the driver's flags.
+-- It is fed what a call did, its records and its memory, and never sees the driver's flags.
 use Prim.Native.Nat.{ℕ}
 use mathlib.Core.Bool.{Bool, true, false, cond, _&&_}
 use mathlib.Core.List.{List, [], _∷_}
@@ -9,10 +9,10 @@ use Rattle.rules.specs.Format.{Format}
 use Rattle.rules.specs.Bytes.{same-bytes}
 use Rattle.rules.specs.Notification.{Notification, tx-confirmation, rx-indication, mode-indication, bus-off-indication, development-error, data-lost, tx-cancellation}
 use Rattle.rules.specs.Configuration.{Configuration, object-at, configuration-of, no-configuration}
-use Rattle.rules.specs.Outcome.{Outcome, Answer, no-answer, mode, taken-by, stored-in, unwanted, lost}
+use Rattle.rules.specs.Outcome.{Outcome}
 use Rattle.rules.specs.Polls.{object-in}
-use Rattle.history.specs.Call.{Call, Init, DeInit, SetControllerMode, GetControllerMode, Write, MainFunctionWrite, MainFunctionRead, MainFunctionMode, MainFunctionBusOff, TxComplete, BusOffDetected, FrameArrived}
-use Rattle.history.specs.Trace.{Step, is-accepted}
+use Rattle.history.specs.Trace.{Step}
+use Rattle.history.specs.Effect.{Configuring, configured, unconfigured, AtObject, written, completed, Effect, nothing, configuring, at-object, at-controller, polling, effect-of}
 
 pub data Account : Type 0 where
   -- no write is open
@@ -60,51 +60,34 @@ unfoldable pub after-notifications : ℕ → Account → List Notification → A
 after-notifications h a [] = a
 after-notifications h a (n ∷ ns) = after-notifications h (after-notification h a n) ns
 
--- the write belongs to the object that its answer names
-abbrev pub is-taken-by : ℕ → Answer → Bool
-is-taken-by h no-answer = false
-is-taken-by h (mode m) = false
-is-taken-by h (taken-by i) = eqb i h
-is-taken-by h (stored-in i) = false
-is-taken-by h unwanted = false
-is-taken-by h lost = false
-
 module _ (L : Limits) (F : Format) where
   -- the configuration that the calls have put in force
-  abbrev pub in-force : Configuration F → Call F → Outcome F → Configuration F
-  in-force cfg (Init sheet bytes) o = cond (is-accepted o) (configuration-of L F bytes) cfg
-  in-force cfg (DeInit sheet) o = cond (is-accepted o) (no-configuration L F) cfg
-  in-force cfg (SetControllerMode sheet c asked) o = cfg
-  in-force cfg (GetControllerMode sheet c) o = cfg
-  in-force cfg (Write sheet i handle fits frame) o = cfg
-  in-force cfg (MainFunctionWrite sheet) o = cfg
-  in-force cfg (MainFunctionRead sheet) o = cfg
-  in-force cfg (MainFunctionMode sheet) o = cfg
-  in-force cfg (MainFunctionBusOff sheet) o = cfg
-  in-force cfg (TxComplete i) o = cfg
-  in-force cfg (BusOffDetected c) o = cfg
-  in-force cfg (FrameArrived sheet c frame) o = cfg
+  abbrev pub configuration-after : Configuring → Configuration F
+  configuration-after (configured bytes) = configuration-of L F bytes
+  configuration-after unconfigured = no-configuration L F
 
-  -- the configuration that a trace has put in force
+  abbrev pub in-force : Configuration F → Effect F → Configuration F
+  in-force cfg (configuring x) = configuration-after x
+  in-force cfg nothing = cfg
+  in-force cfg (at-object h x) = cfg
+  in-force cfg (at-controller c x) = cfg
+  in-force cfg (polling p) = cfg
+
   unfoldable pub force-by : Configuration F → List (Step F) → Configuration F
   force-by cfg [] = cfg
-  force-by cfg (x ∷ xs) = force-by (in-force cfg (x .call) (x .outcome)) xs
+  force-by cfg (x ∷ xs) = force-by (in-force cfg (effect-of F x)) xs
 
   -- accepted writes to object h, and accepted sent events for it
-  abbrev pub after-call : ℕ → Configuration F → Account → Call F → Outcome F → Account
-  after-call h cfg a (Write sheet i handle fits frame) o =
-      cond (is-accepted o && is-taken-by h (o .answer)) (after-write handle (F .object-bytes (object-at L F cfg h .settings) handle frame) a) a
-  after-call h cfg a (TxComplete i) o = cond (is-accepted o && eqb i h) (after-sent a) a
-  after-call h cfg a (Init sheet bytes) o = a
-  after-call h cfg a (DeInit sheet) o = a
-  after-call h cfg a (SetControllerMode sheet c asked) o = a
-  after-call h cfg a (GetControllerMode sheet c) o = a
-  after-call h cfg a (MainFunctionWrite sheet) o = a
-  after-call h cfg a (MainFunctionRead sheet) o = a
-  after-call h cfg a (MainFunctionMode sheet) o = a
-  after-call h cfg a (MainFunctionBusOff sheet) o = a
-  after-call h cfg a (BusOffDetected c) o = a
-  after-call h cfg a (FrameArrived sheet c frame) o = a
+  abbrev pub after-own : ℕ → Configuration F → Account → AtObject F → Account
+  after-own h cfg a (written handle frame) = after-write handle (F .object-bytes (object-at L F cfg h .settings) handle frame) a
+  after-own h cfg a completed = after-sent a
+
+  abbrev pub after-effect : ℕ → Configuration F → Account → Effect F → Account
+  after-effect h cfg a (at-object i x) = cond (eqb i h) (after-own h cfg a x) a
+  after-effect h cfg a nothing = a
+  after-effect h cfg a (configuring x) = a
+  after-effect h cfg a (at-controller c x) = a
+  after-effect h cfg a (polling p) = a
 
   -- "The 72 bytes are compared at the end of every call from the write to the one that closes it"
   abbrev pub compared : ℕ → List ℕ → Account → Account
@@ -113,12 +96,12 @@ module _ (L : Limits) (F : Format) where
   compared h ram broken = broken
 
   -- one call: the write or sent event that it is, then its memory, then its notices
-  abbrev pub account-after : ℕ → Configuration F → Account → Call F → Outcome F → Account
-  account-after h cfg a c o = after-notifications h (compared h (o .ram) (after-call h cfg a c o)) (o .notifications)
+  abbrev pub account-after : ℕ → Configuration F → Account → Effect F → Outcome F → Account
+  account-after h cfg a e o = after-notifications h (compared h (o .ram) (after-effect h cfg a e)) (o .notifications)
 
   unfoldable pub account : ℕ → Configuration F → Account → List (Step F) → Account
   account h cfg a [] = a
-  account h cfg a (x ∷ xs) = account h (in-force cfg (x .call) (x .outcome)) (account-after h cfg a (x .call) (x .outcome)) xs
+  account h cfg a (x ∷ xs) = account h (in-force cfg (effect-of F x)) (account-after h cfg a (effect-of F x) (x .outcome)) xs
 
 -- no rule was broken; a broken account stays broken
 abbrev pub intact : Account → Bool

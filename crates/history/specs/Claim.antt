@@ -11,56 +11,53 @@ use Rattle.rules.specs.Mode.{permitted}
 use Rattle.rules.specs.Configuration.{no-configuration}
 use Rattle.rules.specs.State.{controller-at, initial-state}
 use Rattle.rules.specs.Outcome.{Outcome, mode}
-use Rattle.history.specs.Call.{Call, Init, DeInit, SetControllerMode, GetControllerMode, Write, MainFunctionWrite, MainFunctionRead, MainFunctionMode, MainFunctionBusOff, TxComplete, BusOffDetected, FrameArrived}
-use Rattle.history.specs.Trace.{Step, trace, left-by, is-accepted}
+use Rattle.history.specs.Call.{Call}
+use Rattle.history.specs.Trace.{Step, trace, left-by}
+use Rattle.history.specs.Effect.{AtController, mode-asked, mode-told, bus-off, Poll, of-writes, of-modes, of-buses-off, Effect, nothing, configuring, at-object, at-controller, polling, effect-of}
 use Rattle.history.specs.Account.{closed, account, intact}
 use Rattle.history.specs.Reference.{Reference, at-first, takes-wish, entry, reference-after, reference-by}
 
 module _ (L : Limits) (F : Format) where
-  -- the call is a question for controller c's mode
-  abbrev pub asks-mode : ℕ → Call F → Bool
-  asks-mode c (GetControllerMode sheet k) = eqb k c
-  asks-mode c (Init sheet bytes) = false
-  asks-mode c (DeInit sheet) = false
-  asks-mode c (SetControllerMode sheet k asked) = false
-  asks-mode c (Write sheet h handle fits frame) = false
-  asks-mode c (MainFunctionWrite sheet) = false
-  asks-mode c (MainFunctionRead sheet) = false
-  asks-mode c (MainFunctionMode sheet) = false
-  asks-mode c (MainFunctionBusOff sheet) = false
-  asks-mode c (TxComplete h) = false
-  asks-mode c (BusOffDetected k) = false
-  asks-mode c (FrameArrived sheet k frame) = false
+  -- an accepted question for controller c's mode
+  abbrev pub is-question : AtController → Bool
+  is-question mode-told = true
+  is-question (mode-asked m) = false
+  is-question bus-off = false
 
-  abbrev pub is-mode-poll : Call F → Bool
-  is-mode-poll (MainFunctionMode sheet) = true
-  is-mode-poll (Init sheet bytes) = false
-  is-mode-poll (DeInit sheet) = false
-  is-mode-poll (SetControllerMode sheet k asked) = false
-  is-mode-poll (GetControllerMode sheet k) = false
-  is-mode-poll (Write sheet h handle fits frame) = false
-  is-mode-poll (MainFunctionWrite sheet) = false
-  is-mode-poll (MainFunctionRead sheet) = false
-  is-mode-poll (MainFunctionBusOff sheet) = false
-  is-mode-poll (TxComplete h) = false
-  is-mode-poll (BusOffDetected k) = false
-  is-mode-poll (FrameArrived sheet k frame) = false
+  abbrev pub asks-mode : ℕ → Effect F → Bool
+  asks-mode c (at-controller k x) = eqb k c && is-question x
+  asks-mode c nothing = false
+  asks-mode c (configuring x) = false
+  asks-mode c (at-object h x) = false
+  asks-mode c (polling p) = false
+
+  -- an accepted mode poll
+  abbrev pub polls-modes : Poll → Bool
+  polls-modes of-modes = true
+  polls-modes of-writes = false
+  polls-modes of-buses-off = false
+
+  abbrev pub is-mode-poll : Effect F → Bool
+  is-mode-poll (polling p) = polls-modes p
+  is-mode-poll nothing = false
+  is-mode-poll (configuring x) = false
+  is-mode-poll (at-object h x) = false
+  is-mode-poll (at-controller c x) = false
 
   -- one call against the reference modes of controller c, before it (r) and after it (next)
-  pub record ModeKept (c : ℕ) (r next : Reference) (call : Call F) (o : Outcome F) : Type 0 where
+  pub record ModeKept (c : ℕ) (r next : Reference) (e : Effect F) (o : Outcome F) : Type 0 where
     -- "The modes in the driver state .. equal the book's."
     pub in-state : controller-at (o .state .controllers) c .mode ≡ next .mode
     -- ".. and GetControllerMode's answer where it returns 0"
-    pub answered : (is-accepted o && asks-mode c call) ≡ true → o .answer ≡ mode (next .mode)
+    pub answered : asks-mode c e ≡ true → o .answer ≡ mode (next .mode)
     -- "Each wish that a mode poll takes is a request permitted from the mode that it replaces."
-    pub wish-permitted : (is-accepted o && is-mode-poll call && takes-wish r) ≡ true → permitted (r .mode) (r .wish) ≡ true
+    pub wish-permitted : (is-mode-poll e && takes-wish r) ≡ true → permitted (r .mode) (r .wish) ≡ true
 
   -- "After each call, every controller's mode is the one in 01's mode book."
   abbrev pub ModesKept : ℕ → Reference → List (Step F) → Type 0
   ModesKept c r [] = Unit {0}
   ModesKept c r (x ∷ xs) =
-      ModeKept c r (reference-after L F c r (x .call) (x .outcome)) (x .call) (x .outcome)
-      × ModesKept c (reference-after L F c r (x .call) (x .outcome)) xs
+      ModeKept c r (reference-after L F c r (effect-of F x)) (effect-of F x) (x .outcome) × ModesKept c (reference-after L F c r (effect-of F x)) xs
 
   -- "No call writes more than 36 records."
   abbrev pub NotificationsBounded : List (Step F) → Type 0

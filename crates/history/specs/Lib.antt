@@ -1,6 +1,7 @@
 -- Demand 3, to be read in this order; demand 2's poll rule; demand 1; and what operators ask.
 pub mod Call
 pub mod Trace
+pub mod Effect
 pub mod Account
 pub mod Reference
 pub mod Claim

@@ -2,18 +2,19 @@
 -- came first".
 use Prim.Native.Nat.{ℕ}
 use mathlib.Core.Path.{_≡_}
-use mathlib.Core.Bool.{Bool, true, false, cond, _&&_}
+use mathlib.Core.Bool.{Bool, true, false, cond}
 use mathlib.Core.List.{List, [], _∷_, _++_}
 use mathlib.Core.Logic.{_⊎_}
+use lib.Dec.{eqb}
 use Rattle.rules.specs.Limits.{Limits}
 use Rattle.rules.specs.Format.{Format}
 use Rattle.rules.specs.Notification.{Notification, tx-confirmation}
 use Rattle.rules.specs.Configuration.{object-at, no-configuration}
 use Rattle.rules.specs.State.{initial-state}
-use Rattle.rules.specs.Outcome.{Outcome}
-use Rattle.history.specs.Call.{Call, Init, DeInit, SetControllerMode, GetControllerMode, Write, MainFunctionWrite, MainFunctionRead, MainFunctionMode, MainFunctionBusOff, TxComplete, BusOffDetected, FrameArrived, performed}
+use Rattle.history.specs.Call.{Call, MainFunctionWrite, TxComplete, performed}
 use Rattle.history.specs.Trace.{Step, Left, trace, left-by, is-accepted}
-use Rattle.history.specs.Account.{is-taken-by, force-by}
+use Rattle.history.specs.Effect.{AtObject, written, completed, Poll, of-writes, of-modes, of-buses-off, Effect, nothing, configuring, at-object, at-controller, polling, effect-of}
+use Rattle.history.specs.Account.{force-by}
 use Rattle.history.specs.Reference.{Reference, at-first, stops, reference-after, reference-by}
 use Rattle.history.specs.Claim.{history}
 
@@ -24,44 +25,38 @@ Reported n (m ∷ ms) = (n ≡ m) ⊎ Reported n ms
 
 module _ (L : Limits) (F : Format) where
   -- what may report a sent object of a controller, or take it: a write poll, and a "stop or bus-off poll" of that controller
-  abbrev pub closes-sent : Reference → Call F → Bool
-  closes-sent r (MainFunctionWrite sheet) = true
-  closes-sent r (MainFunctionMode sheet) = stops r
-  closes-sent r (MainFunctionBusOff sheet) = r .mark
-  closes-sent r (Init sheet bytes) = false
-  closes-sent r (DeInit sheet) = false
-  closes-sent r (SetControllerMode sheet c asked) = false
-  closes-sent r (GetControllerMode sheet c) = false
-  closes-sent r (Write sheet i handle fits frame) = false
-  closes-sent r (MainFunctionRead sheet) = false
-  closes-sent r (TxComplete i) = false
-  closes-sent r (BusOffDetected c) = false
-  closes-sent r (FrameArrived sheet c frame) = false
+  abbrev pub poll-closes : Reference → Poll → Bool
+  poll-closes r of-writes = true
+  poll-closes r of-modes = stops r
+  poll-closes r of-buses-off = r .mark
+
+  abbrev pub closes-sent : Reference → Effect F → Bool
+  closes-sent r (polling p) = poll-closes r p
+  closes-sent r nothing = false
+  closes-sent r (configuring x) = false
+  closes-sent r (at-object h x) = false
+  closes-sent r (at-controller c x) = false
 
   -- none of these came, or none that returned 0: r is the entry of controller c before the first call
   abbrev pub NoneCame : ℕ → Reference → List (Step F) → Type 0
   NoneCame c r [] = Unit {0}
-  NoneCame c r (x ∷ xs) =
-      ((is-accepted (x .outcome) && closes-sent r (x .call)) ≡ false) × NoneCame c (reference-after L F c r (x .call) (x .outcome)) xs
+  NoneCame c r (x ∷ xs) = (closes-sent r (effect-of F x) ≡ false) × NoneCame c (reference-after L F c r (effect-of F x)) xs
 
   -- "its own write is the last accepted one to that object": the handle of object h's, k before the first
-  abbrev pub handle-after : ℕ → ℕ → Call F → Outcome F → ℕ
-  handle-after h k (Write sheet i handle fits frame) o = cond (is-accepted o && is-taken-by h (o .answer)) handle k
-  handle-after h k (Init sheet bytes) o = k
-  handle-after h k (DeInit sheet) o = k
-  handle-after h k (SetControllerMode sheet c asked) o = k
-  handle-after h k (GetControllerMode sheet c) o = k
-  handle-after h k (MainFunctionWrite sheet) o = k
-  handle-after h k (MainFunctionRead sheet) o = k
-  handle-after h k (MainFunctionMode sheet) o = k
-  handle-after h k (MainFunctionBusOff sheet) o = k
-  handle-after h k (TxComplete i) o = k
-  handle-after h k (BusOffDetected c) o = k
-  handle-after h k (FrameArrived sheet c frame) o = k
+  abbrev pub handle-of : ℕ → AtObject F → ℕ
+  handle-of k (written handle frame) = handle
+  handle-of k completed = k
+
+  abbrev pub handle-after : ℕ → ℕ → Effect F → ℕ
+  handle-after h k (at-object i x) = cond (eqb i h) (handle-of k x) k
+  handle-after h k nothing = k
+  handle-after h k (configuring x) = k
+  handle-after h k (at-controller c x) = k
+  handle-after h k (polling p) = k
 
   unfoldable pub own-handle : ℕ → ℕ → List (Step F) → ℕ
   own-handle h k [] = k
-  own-handle h k (x ∷ xs) = own-handle h (handle-after h k (x .call) (x .outcome)) xs
+  own-handle h k (x ∷ xs) = own-handle h (handle-after h k (effect-of F x)) xs
 
   module _ (h : ℕ) (before between : List (Call F)) (ram sheet : List ℕ) where
     -- what the calls before the sent event leave, and those before the write poll

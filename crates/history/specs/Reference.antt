@@ -8,9 +8,8 @@ use Rattle.rules.specs.Format.{Format}
 use Rattle.rules.specs.Mode.{UNINIT, STARTED, STOPPED, NO-REQUEST}
 use Rattle.rules.specs.Configuration.{controllers-byte}
 use Rattle.rules.specs.State.{Controller}
-use Rattle.rules.specs.Outcome.{Outcome}
-use Rattle.history.specs.Call.{Call, Init, DeInit, SetControllerMode, GetControllerMode, Write, MainFunctionWrite, MainFunctionRead, MainFunctionMode, MainFunctionBusOff, TxComplete, BusOffDetected, FrameArrived}
-use Rattle.history.specs.Trace.{Step, is-accepted}
+use Rattle.history.specs.Trace.{Step}
+use Rattle.history.specs.Effect.{Configuring, configured, unconfigured, AtController, mode-asked, mode-told, bus-off, Poll, of-writes, of-modes, of-buses-off, Effect, nothing, configuring, at-object, at-controller, polling, effect-of}
 
 -- "It has a mode, a wish and a mark per controller"
 pub record Reference : Type 0 where
@@ -35,26 +34,33 @@ abbrev pub stops : Reference → Bool
 stops r = takes-wish r && (eqb (r .mode) STARTED && not (eqb (r .wish) STARTED))
 
 module _ (L : Limits) (F : Format) (c : ℕ) where
-  -- what an accepted call makes of the entry of controller c
-  abbrev pub entry-after : Reference → Call F → Reference
-  entry-after r (Init sheet bytes) = cond (ltb c (controllers-byte L F bytes)) (record { mode = STOPPED; wish = r .wish; mark = r .mark }) r
-  entry-after r (DeInit sheet) = at-first
-  entry-after r (SetControllerMode sheet k asked) = cond (eqb k c) (record { mode = r .mode; wish = asked; mark = r .mark }) r
-  entry-after r (BusOffDetected k) = cond (eqb k c) (record { mode = r .mode; wish = r .wish; mark = true }) r
-  entry-after r (MainFunctionMode sheet) = cond (takes-wish r) (record { mode = r .wish; wish = NO-REQUEST; mark = r .mark }) r
-  entry-after r (MainFunctionBusOff sheet) = cond (r .mark) (record { mode = STOPPED; wish = NO-REQUEST; mark = false }) r
-  entry-after r (GetControllerMode sheet k) = r
-  entry-after r (Write sheet h handle fits frame) = r
-  entry-after r (MainFunctionWrite sheet) = r
-  entry-after r (MainFunctionRead sheet) = r
-  entry-after r (TxComplete h) = r
-  entry-after r (FrameArrived sheet k frame) = r
+  -- "Init: mode 2 for each controller below the count in its bytes. DeInit: all as at first."
+  abbrev pub after-configuring : Configuring → Reference → Reference
+  after-configuring (configured bytes) r = cond (ltb c (controllers-byte L F bytes)) (record { mode = STOPPED; wish = r .wish; mark = r .mark }) r
+  after-configuring unconfigured r = at-first
+
+  -- "SetControllerMode: the wish becomes the mode asked for. Bus-off event: the mark is set."
+  abbrev pub after-own : AtController → Reference → Reference
+  after-own (mode-asked mode) r = record { mode = r .mode; wish = mode; mark = r .mark }
+  after-own mode-told r = r
+  after-own bus-off r = record { mode = r .mode; wish = r .wish; mark = true }
+
+  -- "Mode poll: each unmarked controller with a wish takes it as its mode, and the wish ends. Bus-off poll: each marked controller gets
+  -- mode 2, no wish, no mark."
+  abbrev pub after-poll : Poll → Reference → Reference
+  after-poll of-writes r = r
+  after-poll of-modes r = cond (takes-wish r) (record { mode = r .wish; wish = NO-REQUEST; mark = r .mark }) r
+  after-poll of-buses-off r = cond (r .mark) (record { mode = STOPPED; wish = NO-REQUEST; mark = false }) r
 
   -- "Only calls that return 0 change it."
-  abbrev pub reference-after : Reference → Call F → Outcome F → Reference
-  reference-after r call o = cond (is-accepted o) (entry-after r call) r
+  abbrev pub reference-after : Reference → Effect F → Reference
+  reference-after r nothing = r
+  reference-after r (configuring x) = after-configuring x r
+  reference-after r (at-object h x) = r
+  reference-after r (at-controller k x) = cond (eqb k c) (after-own x r) r
+  reference-after r (polling p) = after-poll p r
 
   -- the entry after a trace
   unfoldable pub reference-by : Reference → List (Step F) → Reference
   reference-by r [] = r
-  reference-by r (x ∷ xs) = reference-by (reference-after r (x .call) (x .outcome)) xs
+  reference-by r (x ∷ xs) = reference-by (reference-after r (effect-of F x)) xs
