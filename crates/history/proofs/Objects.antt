@@ -14,6 +14,7 @@ use lib.Dec.{eqb, ltb}
 use borrow.Author.Tests.{eqb-true, eq-eqb, ne-eqb, ltb-true, lt-ltb, le-ltb}
 use Rattle.rules.specs.Limits.{Limits, object-start, ram-size}
 use Rattle.rules.specs.Format.{Format, Lawful}
+use Rattle.rules.specs.Head.{identifier-in, length-in, handle-in}
 use Rattle.rules.specs.Repeat.{rising, all-below}
 use Rattle.rules.specs.Bytes.{splice}
 use Rattle.rules.specs.Reason.{first-reason, reasons-named, is-development-error}
@@ -131,7 +132,7 @@ module _ (L : Limits) (F : Format) (h : ℕ) where
   -- the account agrees with the mailbox and with the object's bytes
   abbrev pub Matches : Mailbox → List ℕ → Account → Type 0
   Matches m bytes closed = m .tx-pending ≡ false
-  Matches m bytes (held k b sent) = (m .tx-pending ≡ true) × (m .tx-done ≡ sent) × (bytes ≡ b) × (F .handle-in b ≡ k)
+  Matches m bytes (held k b sent) = (m .tx-pending ≡ true) × (m .tx-done ≡ sent) × (bytes ≡ b) × (handle-in b ≡ k)
   Matches m bytes broken = ⊥
 
   matches-intact : (m : Mailbox) (bytes : List ℕ) (a : Account) → Matches m bytes a → intact a ≡ true
@@ -171,18 +172,18 @@ module _ (L : Limits) (F : Format) (h : ℕ) where
   own-sent m ram broken p pending unsent = absurd p
 
   -- the closing notice of a pending object carries its handle; a confirmation needs the frame to be sent
-  own-confirmation : (m : Mailbox) (bytes : List ℕ) (a : Account) → Matches m bytes a → m .tx-pending ≡ true → m .tx-done ≡ true → after-confirmation (F .handle-in bytes) a ≡ closed
+  own-confirmation : (m : Mailbox) (bytes : List ℕ) (a : Account) → Matches m bytes a → m .tx-pending ≡ true → m .tx-done ≡ true → after-confirmation (handle-in bytes) a ≡ closed
   own-confirmation m bytes closed p pending done = clash pending p
   own-confirmation m bytes (held k b sent) p pending done =
       let was-sent : sent ≡ true = sym (p .1) ∙ done in
-      let own-handle : F .handle-in bytes ≡ k = ap (F .handle-in) (p .2) ∙ p .3 in
+      let own-handle : handle-in bytes ≡ k = ap handle-in (p .2) ∙ p .3 in
       rw (was-sent, own-handle, eq-eqb k k refl)
   own-confirmation m bytes broken p pending done = absurd p
 
-  own-cancellation : (m : Mailbox) (bytes : List ℕ) (a : Account) → Matches m bytes a → m .tx-pending ≡ true → after-cancellation (F .handle-in bytes) a ≡ closed
+  own-cancellation : (m : Mailbox) (bytes : List ℕ) (a : Account) → Matches m bytes a → m .tx-pending ≡ true → after-cancellation (handle-in bytes) a ≡ closed
   own-cancellation m bytes closed p pending = clash pending p
   own-cancellation m bytes (held k b sent) p pending =
-      let own-handle : F .handle-in bytes ≡ k = ap (F .handle-in) (p .2) ∙ p .3 in
+      let own-handle : handle-in bytes ≡ k = ap handle-in (p .2) ∙ p .3 in
       rw (own-handle, eq-eqb k k refl)
   own-cancellation m bytes broken p pending = absurd p
 
@@ -191,7 +192,7 @@ module _ (L : Limits) (F : Format) (h : ℕ) where
   Closable by-sent m = m .tx-done ≡ true
   Closable by-stop m = m .tx-pending ≡ true
 
-  own-closing : (why : Closing) (m : Mailbox) (bytes : List ℕ) (a : Account) → Matches m bytes a → Flags m → Closable why m → after-notification h a (closing-notification why m h (F .handle-in bytes)) ≡ closed
+  own-closing : (why : Closing) (m : Mailbox) (bytes : List ℕ) (a : Account) → Matches m bytes a → Flags m → Closable why m → after-notification h a (closing-notification why m h (handle-in bytes)) ≡ closed
   own-closing by-sent m bytes a p flags ready = rw (eq-eqb h h refl) (own-confirmation m bytes a p (flags .done-pending ready) ready)
   own-closing by-stop m bytes a p flags ready = rw (eq-eqb h h refl) (own-cancellation m bytes a p ready)
 
@@ -236,10 +237,10 @@ module _ (L : Limits) (F : Format) (h : ℕ) where
     closed-one : (why : Closing) (i : ℕ) (b : Boxes) → OnWay b → Closable why (mailbox-at (b .mailboxes) i) → OnWay (close L F why ram i b)
     closed-one why i b q ready =
         let x = after-notifications h a (b .notifications) in
-        emptied i (closing-notification why (mailbox-at (b .mailboxes) i) i (F .handle-in (object-in L F ram i))) b q
-        (λ e. ap (λ (j : ℕ). after-notification h x (closing-notification why (mailbox-at (b .mailboxes) j) j (F .handle-in (object-in L F ram j)))) e
+        emptied i (closing-notification why (mailbox-at (b .mailboxes) i) i (handle-in (object-in L F ram i))) b q
+        (λ e. ap (λ (j : ℕ). after-notification h x (closing-notification why (mailbox-at (b .mailboxes) j) j (handle-in (object-in L F ram j)))) e
         ∙ own-closing why (mailbox-at (b .mailboxes) h) (object-in L F ram h) x (q .agrees) (q .flags) (subst (λ (j : ℕ). Closable why (mailbox-at (b .mailboxes) j)) e ready))
-        (λ d. other-closing why (mailbox-at (b .mailboxes) i) i (F .handle-in (object-in L F ram i)) x d)
+        (λ d. other-closing why (mailbox-at (b .mailboxes) i) i (handle-in (object-in L F ram i)) x d)
 
     confirm-keeps : (i : ℕ) (b : Boxes) → OnWay b → OnWay (confirm-one L F ram i b)
     confirm-keeps i b q = cond-both OnWay (mailbox-at (b .mailboxes) i .tx-done) (close L F by-sent ram i b) b (λ t. closed-one by-sent i b q t) (λ t. q)
@@ -248,7 +249,7 @@ module _ (L : Limits) (F : Format) (h : ℕ) where
     indicate-keeps i b q =
         let x = after-notifications h a (b .notifications) in
         cond-both OnWay (mailbox-at (b .mailboxes) i .rx-full) _ b
-        (λ t. emptied i (rx-indication i (F .identifier-in (object-in L F ram i)) (F .length-in (object-in L F ram i))) b q
+        (λ t. emptied i (rx-indication i (identifier-in (object-in L F ram i)) (length-in (L .length-size) (object-in L F ram i))) b q
         (λ e. not-held (mailbox-at (b .mailboxes) h) (object-in L F ram h) x (q .agrees) (q .flags .full-free (subst (λ (j : ℕ). mailbox-at (b .mailboxes) j .rx-full ≡ true) e t)))
         (λ d. refl))
         (λ t. q)

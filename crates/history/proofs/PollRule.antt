@@ -11,6 +11,7 @@ use lib.Dec.{eqb}
 use borrow.Author.Tests.{eq-eqb}
 use Rattle.rules.specs.Limits.{Limits}
 use Rattle.rules.specs.Format.{Format, Lawful}
+use Rattle.rules.specs.Head.{handle-in}
 use Rattle.rules.specs.Repeat.{rising}
 use Rattle.rules.specs.Bytes.{same-bytes}
 use Rattle.rules.specs.Reason.{first-reason}
@@ -200,22 +201,22 @@ module _ (L : Limits) (F : Format) (h : ℕ) where
       next-held still (performed-follows L F c call s ram (valid-facts L F s (f .sound))) (here .1)
 
   -- a write poll confirms every sent object
-  confirms : (ram : List ℕ) (n : ℕ) (b : Boxes) → h < n → mailbox-at (b .mailboxes) h .tx-done ≡ true → Reported (tx-confirmation h (F .handle-in (object-in L F ram h))) (rising n (confirm-one L F ram) b .notifications)
+  confirms : (ram : List ℕ) (n : ℕ) (b : Boxes) → h < n → mailbox-at (b .mailboxes) h .tx-done ≡ true → Reported (tx-confirmation h (handle-in (object-in L F ram h))) (rising n (confirm-one L F ram) b .notifications)
   unfolding rising
   confirms ram zero b l done = absurd (omega arith)
   confirms ram (suc n) b l done = ⊎-elim here (λ (k : h < n). later (confirms ram n b k done)) (last-or-below n h l)
     where
-      here : h ≡ n → Reported (tx-confirmation h (F .handle-in (object-in L F ram h))) (confirm-one L F ram n (rising n (confirm-one L F ram) b) .notifications)
+      here : h ≡ n → Reported (tx-confirmation h (handle-in (object-in L F ram h))) (confirm-one L F ram n (rising n (confirm-one L F ram) b) .notifications)
       here e =
           let untouched = boxes-above (λ i m. m .tx-done) (confirm-one L F ram) (confirm-step L F ram) b h h (omega arith) in
-          subst (λ (i : ℕ). Reported (tx-confirmation h (F .handle-in (object-in L F ram h))) (confirm-one L F ram i (rising i (confirm-one L F ram) b) .notifications)) e
-          (rw (ap (λ (m : Mailbox). m .tx-done) untouched ∙ done) (reported-last (tx-confirmation h (F .handle-in (object-in L F ram h))) (rising h (confirm-one L F ram) b .notifications)))
+          subst (λ (i : ℕ). Reported (tx-confirmation h (handle-in (object-in L F ram h))) (confirm-one L F ram i (rising i (confirm-one L F ram) b) .notifications)) e
+          (rw (ap (λ (m : Mailbox). m .tx-done) untouched ∙ done) (reported-last (tx-confirmation h (handle-in (object-in L F ram h))) (rising h (confirm-one L F ram) b .notifications)))
 
-      later : Reported (tx-confirmation h (F .handle-in (object-in L F ram h))) (rising n (confirm-one L F ram) b .notifications)
-          → Reported (tx-confirmation h (F .handle-in (object-in L F ram h))) (confirm-one L F ram n (rising n (confirm-one L F ram) b) .notifications)
+      later : Reported (tx-confirmation h (handle-in (object-in L F ram h))) (rising n (confirm-one L F ram) b .notifications)
+          → Reported (tx-confirmation h (handle-in (object-in L F ram h))) (confirm-one L F ram n (rising n (confirm-one L F ram) b) .notifications)
       later r =
           let w = rising n (confirm-one L F ram) b in
-          cond-both (λ (x : Boxes). Reported (tx-confirmation h (F .handle-in (object-in L F ram h))) (x .notifications)) (mailbox-at (w .mailboxes) n .tx-done) (close L F by-sent ram n w) w
+          cond-both (λ (x : Boxes). Reported (tx-confirmation h (handle-in (object-in L F ram h))) (x .notifications)) (mailbox-at (w .mailboxes) n .tx-done) (close L F by-sent ram n w) w
           (λ t. reported-front _ (w .notifications) _ r)
           (λ t. r)
 
@@ -230,8 +231,8 @@ module _ (L : Limits) (F : Format) (h : ℕ) where
       (λ r accepted. subst (λ (x : ℕ). Reported (tx-confirmation h x) (rising (s .configuration .object-count) (confirm-one L F ram) (boxes-of L F s) .notifications)) own-handle (confirms ram (s .configuration .object-count) (boxes-of L F s) in-use (f .matches .1)))
       ok
     where
-      own-handle : F .handle-in (object-in L F ram h) ≡ k
-      own-handle = ap (F .handle-in) (f .matches .2) ∙ f .matches .3
+      own-handle : handle-in (object-in L F ram h) ≡ k
+      own-handle = ap handle-in (f .matches .2) ∙ f .matches .3
 
       in-use : h < s .configuration .object-count
       in-use = go (decLt h (s .configuration .object-count))

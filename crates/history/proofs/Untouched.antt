@@ -10,6 +10,7 @@ use lib.Dec.{eqb}
 use borrow.Author.Tests.{eqb-true, ne-eqb}
 use Rattle.rules.specs.Limits.{Limits}
 use Rattle.rules.specs.Format.{Format}
+use Rattle.rules.specs.Head.{handle-in}
 use Rattle.rules.specs.Repeat.{rising}
 use Rattle.rules.specs.Notification.{Notification, mode-indication, bus-off-indication}
 use Rattle.rules.specs.Configuration.{Configuration, object-at}
@@ -60,7 +61,7 @@ module _ (L : Limits) (F : Format) (ram : List ℕ) (h : ℕ) (m : Mailbox) wher
         unclosed = still-open h (b .notifications) _ (u .unclosed) (not-named why);
       }
     where
-      not-named : (w : Closing) → closes h (closing-notification w (mailbox-at (b .mailboxes) i) i (F .handle-in (object-in L F ram i))) ≡ false
+      not-named : (w : Closing) → closes h (closing-notification w (mailbox-at (b .mailboxes) i) i (handle-in (object-in L F ram i))) ≡ false
       not-named by-sent = ne-eqb i h apart
       not-named by-stop = ne-eqb i h apart
 

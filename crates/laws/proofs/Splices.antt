@@ -8,7 +8,7 @@ use native.Mathlib.Numerals.{add-one}
 use lib.ListN.{length, take, drop, set, getD, replicate, length-append, length-take, length-drop, take-append-drop, length-replicate, replicate-append-replicate}
 use lib.Seq.{take-at, drop-at, set-split, drop-drop, take-take, take-suc, take-append-seam, getD-take, getD-drop, length-take-le, sets, sets-eq}
 use Rattle.rules.specs.Repeat.{list-below}
-use Rattle.rules.specs.Bytes.{splice, part}
+use Rattle.rules.specs.Bytes.{splice, part, number}
 
 module _ {A : Type 0} where
   -- a part that ends within the first m elements
@@ -110,3 +110,11 @@ module _ {A : Type 0} where
 
   pub getD-part : (i b m : ℕ) (l : List A) (d : A) → i < m → getD (part b m l) i d ≡ getD l (b + i) d
   getD-part i b m l d h = getD-take m (drop b l) i d h ∙ getD-drop b l i d
+
+-- one byte spells itself; past the end there is none, which spells 0
+pub number-one : (at : ℕ) (l : List ℕ) → number (part at 1 l) ≡ getD l at 0
+unfolding number
+number-one zero [] = refl
+number-one zero (x ∷ l) = omega arith
+number-one (suc at) [] = refl
+number-one (suc at) (x ∷ l) = number-one at l

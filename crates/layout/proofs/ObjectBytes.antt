@@ -8,7 +8,8 @@ use lib.Dec.{leb, eqb}
 use lib.ListN.{length, length-append, length-replicate}
 use borrow.Author.Tests.{leb-true, leb-false, ne-eqb}
 use Rattle.rules.specs.Bytes.{big-endian, number}
-use Rattle.rules.specs.Can.{Frame, Settings, fd-lengths, next-length, wire-length, longest-fd, object-bytes, can-format}
+use Rattle.rules.specs.Head.{handle-in}
+use Rattle.rules.specs.Can.{Frame, Settings, fd-lengths, next-length, wire-length, longest-fd, object-bytes}
 use Rattle.rules.specs.Chip.{chip}
 use Rattle.laws.proofs.Tests.{left, right}
 
@@ -42,6 +43,6 @@ unfolding object-bytes big-endian
 object-fills s handle f h = simp (length-append, length-replicate) (omega (arith, wire-within (length (f .sdu)) h))
 
 -- the handle is read back as it was written
-pub handle-back : (s : Settings) (handle : ℕ) (f : Frame) → handle < 2 ^ 16 → can-format .handle-in (object-bytes s handle f) ≡ handle
+pub handle-back : (s : Settings) (handle : ℕ) (f : Frame) → handle < 2 ^ 16 → handle-in (object-bytes s handle f) ≡ handle
 unfolding object-bytes big-endian number
 handle-back s handle f h = omega arith

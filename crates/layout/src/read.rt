@@ -10,6 +10,7 @@ ghost use mathlib.Core.Path.{_≡_};
 ghost use Prim.Native.Nat.{_<_};
 ghost use lib.ListN.{length};
 ghost use Rattle.rules.specs.Limits.{ram-size};
+ghost use Rattle.rules.specs.Head.{identifier-in, length-in, handle-in};
 ghost use Rattle.rules.specs.Polls.{object-in};
 ghost use Rattle.rules.specs.Can.{can-format, data-of};
 ghost use Rattle.rules.specs.Chip as rules;
@@ -23,7 +24,7 @@ const HANDLE_AT: usize = 6;
 // The handle that an object's bytes name.
 pub fn handle_at(ram: &[u8], object: usize) -> u32
     requires { ⌜ (object < rules.chip .objects) × (length (now ram) ≡ ram-size rules.chip) ⌝ }
-    ensures { λ r. ⌜ r ≡ can-format .handle-in (object-in rules.chip can-format (now (ram .entry)) object) ⌝ }
+    ensures { λ r. ⌜ r ≡ handle-in (object-in rules.chip can-format (now (ram .entry)) object) ⌝ }
 {
     number_2(ram, OBJECT_SIZE * object + HANDLE_AT)
 }
@@ -31,7 +32,7 @@ pub fn handle_at(ram: &[u8], object: usize) -> u32
 // The identifier that an object's bytes name.
 pub fn identifier_at(ram: &[u8], object: usize) -> u32
     requires { ⌜ (object < rules.chip .objects) × (length (now ram) ≡ ram-size rules.chip) ⌝ }
-    ensures { λ r. ⌜ r ≡ can-format .identifier-in (object-in rules.chip can-format (now (ram .entry)) object) ⌝ }
+    ensures { λ r. ⌜ r ≡ identifier-in (object-in rules.chip can-format (now (ram .entry)) object) ⌝ }
 {
     number_4(ram, OBJECT_SIZE * object)
 }
@@ -39,7 +40,7 @@ pub fn identifier_at(ram: &[u8], object: usize) -> u32
 // The wire length that an object's bytes name, as it stands: 0 to 255.
 pub fn length_at(ram: &[u8], object: usize) -> u32
     requires { ⌜ (object < rules.chip .objects) × (length (now ram) ≡ ram-size rules.chip) ⌝ }
-    ensures { λ r. ⌜ r ≡ can-format .length-in (object-in rules.chip can-format (now (ram .entry)) object) ⌝ }
+    ensures { λ r. ⌜ r ≡ length-in (rules.chip .length-size) (object-in rules.chip can-format (now (ram .entry)) object) ⌝ }
 {
     ram[OBJECT_SIZE * object + LENGTH_AT] as u32
 }

@@ -161,9 +161,6 @@ can-format =
       accepts = λ s f. filter-accepts (f .identifier) (s .code) (s .mask) (s .payload);
       rank = λ s. 0;
       object-bytes = object-bytes;
-      handle-in = λ o. number (part 6 2 o);
-      identifier-in = λ o. number (part 0 4 o);
-      length-in = λ o. getD o 4 0;
     }
 
 -- Data of an object: "that part of the caller's mailbox memory that holds its data, as long as byte 4 says;

@@ -2,4 +2,4 @@
 use Rattle.rules.specs.Limits.{Limits}
 
 abbrev pub chip : Limits
-chip = record { controllers = 4; objects = 32; object-size = 72 }
+chip = record { controllers = 4; objects = 32; object-size = 72; length-size = 1 }

@@ -6,6 +6,7 @@ use mathlib.Core.Bool.{Bool, true}
 use mathlib.Core.List.{List}
 use lib.ListN.{length}
 use Rattle.rules.specs.Limits.{Limits}
+use Rattle.rules.specs.Head.{handle-in}
 use Rattle.rules.specs.Reason.{Check, first-reason, reasons-named}
 
 pub record Format : Type 1 where
@@ -31,10 +32,6 @@ pub record Format : Type 1 where
   pub rank : Settings → ℕ
   -- the bytes that an object holds once a frame with this handle is laid down
   pub object-bytes : Settings → ℕ → Frame → List ℕ
-  -- what is read back from an object's bytes
-  pub handle-in : List ℕ → ℕ
-  pub identifier-in : List ℕ → ℕ
-  pub length-in : List ℕ → ℕ
 
 -- What the laws ask of a format: unused settings are recognised, its reasons have numbers above 0, a frame that passes its checks
 -- fills its object, and its handle can be read back.
@@ -44,4 +41,4 @@ pub record Lawful (L : Limits) (F : Format) : Type 0 where
   pub arrival-reasons : (f : F .Frame) → reasons-named (F .arrival-checks f) ≡ true
   pub written-fills : (s : F .Settings) (handle : ℕ) (f : F .Frame) → first-reason (F .write-checks s f) ≡ 0 → length (F .object-bytes s handle f) ≡ L .object-size
   pub arrived-fills : (s : F .Settings) (f : F .Frame) → first-reason (F .arrival-checks f) ≡ 0 → length (F .object-bytes s 0 f) ≡ L .object-size
-  pub handle-kept : (s : F .Settings) (handle : ℕ) (f : F .Frame) → handle < 2 ^ 16 → F .handle-in (F .object-bytes s handle f) ≡ handle
+  pub handle-kept : (s : F .Settings) (handle : ℕ) (f : F .Frame) → handle < 2 ^ 16 → handle-in (F .object-bytes s handle f) ≡ handle

@@ -76,6 +76,7 @@
 pub mod Limits
 pub mod Repeat
 pub mod Bytes
+pub mod Head
 pub mod Notification
 pub mod Reason
 pub mod Mode

@@ -8,6 +8,8 @@ pub record Limits : Type 0 where
   pub objects : ℕ
   -- bytes of message RAM for each object
   pub object-size : ℕ
+  -- bytes of an object's length
+  pub length-size : ℕ
 
 -- "mailbox memory": the message RAM has exactly so many bytes
 abbrev pub ram-size : Limits → ℕ

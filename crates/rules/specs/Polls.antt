@@ -8,6 +8,7 @@ use Rattle.rules.specs.Limits.{Limits, object-start}
 use Rattle.rules.specs.Format.{Format}
 use Rattle.rules.specs.Repeat.{rising}
 use Rattle.rules.specs.Bytes.{part}
+use Rattle.rules.specs.Head.{identifier-in, length-in, handle-in}
 use Rattle.rules.specs.Mode.{STARTED, STOPPED, NO-REQUEST}
 use Rattle.rules.specs.Notification.{Notification, tx-confirmation, tx-cancellation, rx-indication, mode-indication, bus-off-indication}
 use Rattle.rules.specs.Reason.{first-reason}
@@ -68,7 +69,7 @@ module _ (L : Limits) (F : Format) where
   close why ram h b =
       record {
         mailboxes = set (b .mailboxes) h closed-mailbox;
-        notifications = b .notifications ++ (closing-notification why (mailbox-at (b .mailboxes) h) h (F .handle-in (object-in ram h)) ∷ []);
+        notifications = b .notifications ++ (closing-notification why (mailbox-at (b .mailboxes) h) h (handle-in (object-in ram h)) ∷ []);
       }
 
   -- "Write poll: each gone object in rising order is confirmed and freed"
@@ -81,7 +82,7 @@ module _ (L : Limits) (F : Format) where
       cond (mailbox-at (b .mailboxes) h .rx-full)
       (record {
         mailboxes = set (b .mailboxes) h empty-mailbox;
-        notifications = b .notifications ++ (rx-indication h (F .identifier-in (object-in ram h)) (F .length-in (object-in ram h)) ∷ []);
+        notifications = b .notifications ++ (rx-indication h (identifier-in (object-in ram h)) (length-in (L .length-size) (object-in ram h)) ∷ []);
       })
       b
 

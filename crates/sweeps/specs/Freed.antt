@@ -2,6 +2,7 @@
 -- that call."
 use Prim.Native.Nat.{ℕ}
 use mathlib.Core.List.{List}
+use Rattle.rules.specs.Head.{identifier-in, length-in, handle-in}
 use Rattle.rules.specs.Notification.{Notification, rx-indication}
 use Rattle.rules.specs.State.{Mailbox}
 use Rattle.rules.specs.Polls as rules
@@ -17,9 +18,9 @@ view-closing Stopped = rules.by-stop
 
 -- its closing notification
 abbrev pub closed-by : rules.Closing → Mailbox → List ℕ → ℕ → Notification
-closed-by why m ram object = rules.closing-notification why m object (can-format .handle-in (rules.object-in chip can-format ram object))
+closed-by why m ram object = rules.closing-notification why m object (handle-in (rules.object-in chip can-format ram object))
 
 -- its indication
 abbrev pub indicated-by : List ℕ → ℕ → Notification
 indicated-by ram object =
-    rx-indication object (can-format .identifier-in (rules.object-in chip can-format ram object)) (can-format .length-in (rules.object-in chip can-format ram object))
+    rx-indication object (identifier-in (rules.object-in chip can-format ram object)) (length-in (chip .length-size) (rules.object-in chip can-format ram object))
