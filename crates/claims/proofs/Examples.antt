@@ -18,7 +18,7 @@ use Rattle.rules.specs.Polls.{main-function-write, main-function-read, main-fun
 use Rattle.rules.specs.Events.{tx-complete, bus-off-detected, frame-arrived, best-object}
 use Rattle.rules.specs.Can.{Frame, can-format, next-length, lengths-below, object-bytes}
 use Rattle.rules.specs.Chip.{chip}
-use Rattle.history.specs.Call.{Call, Init, SetControllerMode, Write, MainFunctionRead, MainFunctionMode, MainFunctionBusOff, TxComplete, BusOffDetected, FrameArrived, performed}
+use Rattle.history.specs.Call.{Call, Init, SetControllerMode, Write, MainFunctionRead, MainFunctionMode, MainFunctionBusOff, BusOffDetected, FrameArrived, performed}
 use Rattle.history.specs.Trace.{trace, left-by}
 use Rattle.history.specs.Account.{force-by}
 use Rattle.history.specs.Reference.{reference-by}

@@ -1,13 +1,13 @@
 -- What a call leaves behind, and how its reasons decide. 01, "Reasons for a no".
 use Prim.Native.Nat.{ℕ}
-use mathlib.Core.Bool.{Bool, not, cond}
-use mathlib.Core.List.{List, [], _∷_, _++_}
+use mathlib.Core.Bool.{not, cond}
+use mathlib.Core.List.{List, [], _∷_}
 use lib.ListN.{length}
 use lib.Dec.{eqb, ltb}
 use Rattle.rules.specs.Limits.{Limits, ram-size, sheet-size}
 use Rattle.rules.specs.Format.{Format}
 use Rattle.rules.specs.Notification.{Notification, development-error}
-use Rattle.rules.specs.Reason.{Check, _if_, E-OK, first-reason, return-code, is-development-error, INVALID-STATE, SHEET-TOO-SHORT, WRONG-RAM-SIZE}
+use Rattle.rules.specs.Reason.{Check, _if_, E-OK, return-code, is-development-error, INVALID-STATE, SHEET-TOO-SHORT, WRONG-RAM-SIZE}
 use Rattle.rules.specs.State.{State, valid}
 
 -- what a call answers beside its return code and reason

@@ -2,15 +2,15 @@
 use Prim.Native.Nat.{ℕ}
 use mathlib.Core.Bool.{Bool, true, false, not, cond, _&&_, _||_}
 use mathlib.Core.List.{List, [], _∷_, _++_}
-use lib.ListN.{length, getD, set, replicate}
-use lib.Dec.{eqb, ltb}
+use lib.ListN.{set, replicate}
+use lib.Dec.{ltb}
 use Rattle.rules.specs.Limits.{Limits, ram-size, object-start}
 use Rattle.rules.specs.Format.{Format}
 use Rattle.rules.specs.Repeat.{all-below, list-below}
 use Rattle.rules.specs.Bytes.{splice}
 use Rattle.rules.specs.Mode.{STOPPED, NO-REQUEST, permitted}
 use Rattle.rules.specs.Reason.{Check, _if_, first-reason, CAN-E-PARAM-HANDLE, CAN-E-PARAM-CONTROLLER, CAN-E-UNINIT, CAN-E-TRANSITION, CAN-E-INIT-FAILED, NOT-STARTED, OBJECT-BUSY}
-use Rattle.rules.specs.Configuration.{ObjectConfig, Configuration, object-at, configuration-of, accepted-bytes}
+use Rattle.rules.specs.Configuration.{Configuration, object-at, configuration-of, accepted-bytes}
 use Rattle.rules.specs.State.{Controller, Mailbox, State, idle-controller, empty-mailbox, controller-at, mailbox-at, is-started, initial-state}
 use Rattle.rules.specs.Outcome.{Outcome, no-answer, mode, taken-by, service-report, rejected, accepted, judged, sheet-gate, full-gate}
 

@@ -8,7 +8,7 @@ use Rattle.rules.specs.Limits.{Limits}
 use Rattle.rules.specs.Format.{Format}
 use Rattle.rules.specs.Mode.{UNINIT, STARTED, SLEEP, NO-REQUEST, permitted}
 use Rattle.rules.specs.Repeat.{all-below}
-use Rattle.rules.specs.Configuration.{ObjectConfig, Configuration, object-at, counts-valid, object-places-valid, no-configuration}
+use Rattle.rules.specs.Configuration.{Configuration, object-at, counts-valid, object-places-valid, no-configuration}
 
 -- "its mode, a waiting request (none or a mode) and an off-bus mark"
 pub record Controller : Type 0 where
