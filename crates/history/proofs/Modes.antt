@@ -31,7 +31,7 @@ use Rattle.history.specs.Reference.{Reference, takes-wish, entry, refere
 use Rattle.history.specs.Claim.{ModeKept, ModesKept, asks-mode, is-mode-poll}
 use Rattle.history.proofs.Effects.{either-effect, either-object}
 use Rattle.history.proofs.Steps.{performed-valid}
-use Rattle.laws.proofs.Tests.{left, right, clash, decide, cond-map, not-true, not-false}
+use Rattle.laws.proofs.Tests.{left, right, clash, decide, cond-map, not-true, not-false, and-false, cond-same}
 use Rattle.laws.proofs.Repeat.{length-list-below, getD-list-below, replicate-default}
 use Rattle.laws.proofs.Reasons.{check-passed, judged-cases, rejected-code}
 use Rattle.laws.proofs.Validity.{Valid, valid-facts}
@@ -48,14 +48,6 @@ idle-is k h =
     let request-is = eqb-true (k .requested-mode) NO-REQUEST (right m r (left (m && r) (not (k .bus-off)) h)) in
     let mark-is = not-true (k .bus-off) (right (m && r) (not (k .bus-off)) h) in
     λ i. record { mode = mode-is i; requested-mode = request-is i; bus-off = mark-is i }
-
-cond-same : {A : Type 0} (t : Bool) (x : A) → cond t x x ≡ x
-cond-same true x = refl
-cond-same false x = refl
-
-and-false : (b : Bool) → (b && false) ≡ false
-and-false true = refl
-and-false false = refl
 
 -- accepted bytes name no more controllers than there are places
 accepted-controllers : (L : Limits) (F : Format) (bytes : List ℕ) → accepted-bytes L F bytes ≡ true → controllers-byte L F bytes ≤ L .controllers

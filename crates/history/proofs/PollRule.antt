@@ -28,7 +28,7 @@ use Rattle.history.specs.Account.{Account, closed, held, broken, after-s
 use Rattle.history.specs.Reference.{entry, Reference, at-first, reference-after}
 use Rattle.history.specs.PollRule.{Reported, NoneCame, own-handle, own-controller, PollRule}
 use Rattle.history.specs.Operators.{closes, closed-in}
-use Rattle.laws.proofs.Tests.{clash, cond-both}
+use Rattle.laws.proofs.Tests.{clash, cond-both, neither}
 use Rattle.laws.proofs.Repeat.{last-or-below, replicate-default}
 use Rattle.laws.proofs.Reasons.{judged-cases, rejected-code}
 use Rattle.laws.proofs.Validity.{valid-facts}
@@ -39,7 +39,6 @@ use Rattle.history.proofs.Effects.{either-effect, either-object}
 use Rattle.history.proofs.Modes.{performed-follows, reference-list}
 use Rattle.history.proofs.Objects.{Matches, Follows, follows-on, follows-first, unused-empty}
 use Rattle.history.proofs.OwnHandle.{own-handle-held}
-use Rattle.history.proofs.Untouched.{neither}
 use Rattle.history.proofs.Quiet.{performed-quiet}
 
 -- a notification that does not close the object leaves its account

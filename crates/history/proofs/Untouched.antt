@@ -1,7 +1,7 @@
 -- The sweeps of the polls leave an object untouched that they do not close: its mailbox, and no closing notice names it.
 use Prim.Native.Nat.{ℕ, zero, suc}
 use mathlib.Core.Path.{_≡_, refl, ap, sym, _∙_, subst}
-use mathlib.Core.Bool.{Bool, true, false, cond, _&&_, _||_}
+use mathlib.Core.Bool.{Bool, true, false, cond, _&&_}
 use mathlib.Core.List.{List, [], _∷_, _++_}
 use native.Mathlib.Nat.{le-refl}
 use lib.ListN.{set}
@@ -18,15 +18,10 @@ use Rattle.rules.specs.State.{Controller, Mailbox, State, idle-controller, empt
 use Rattle.rules.specs.Polls.{Boxes, Sweep, Closing, closing-notification, object-in, boxes-of, by-sent, by-stop, notify, close, confirm-one, cancel-one, cancel-all, change-mode, mode-one, go-bus-off, bus-off-one, takes-request, leaves-started, entering-request, entering-bus-off}
 use Rattle.history.specs.Operators.{closes, closed-in}
 use Rattle.history.specs.Reference.{entry, stops}
-use Rattle.laws.proofs.Tests.{both, left, right, clash, cond-both}
+use Rattle.laws.proofs.Tests.{both, left, right, clash, cond-both, neither}
 use Rattle.laws.proofs.Repeat.{rising-keeps}
 use Rattle.laws.proofs.Sweeps.{sweep-above}
 use Rattle.history.proofs.Modes.{mode-visit, bus-off-visit}
-
--- neither of two tests holds
-pub neither : (a b : Bool) → (a || b) ≡ false → (a ≡ false) × (b ≡ false)
-neither true b e = clash refl e
-neither false b e = (refl, e)
 
 -- one notification more, which does not close the object
 pub still-open : (h : ℕ) (ns : List Notification) (n : Notification) → closed-in h ns ≡ false → closes h n ≡ false → closed-in h (ns ++ (n ∷ [])) ≡ false

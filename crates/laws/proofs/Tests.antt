@@ -42,3 +42,17 @@ not-true false p = refl
 pub not-false : (b : Bool) → not b ≡ false → b ≡ true
 not-false true p = refl
 not-false false p = absurd (true≢false p)
+
+-- neither of two tests holds
+pub neither : (a b : Bool) → (a || b) ≡ false → (a ≡ false) × (b ≡ false)
+neither true b e = clash refl e
+neither false b e = (refl, e)
+
+pub and-false : (b : Bool) → (b && false) ≡ false
+and-false true = refl
+and-false false = refl
+
+-- a choice between a thing and itself
+pub cond-same : {A : Type 0} (t : Bool) (x : A) → cond t x x ≡ x
+cond-same true x = refl
+cond-same false x = refl

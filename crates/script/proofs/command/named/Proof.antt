@@ -1,9 +1,8 @@
 -- `script::command::named` meets its contract: each arm reads the words of its name. Only init, write and arrived bring bytes.
 use Prim.Native.Nat.{ℕ}
 use mathlib.Core.Path.{_≡_, refl, sym, ap, _∙_}
-use mathlib.Core.Bool.{Bool, true, false, cond}
 use mathlib.Core.List.{List, []}
-use Rattle.laws.proofs.Tests.{cond-map}
+use Rattle.laws.proofs.Tests.{cond-map, cond-same}
 use Rattle.words.specs.Split.{word}
 use Rattle.words.specs.Reading.{number-of, mode-of, limited-to, largest-sheet, largest-memory}
 use Rattle.words.specs.declared.reading.Trouble.the-variants.{SheetTooLong, MemoryTooLong}
@@ -32,10 +31,6 @@ number-quiet make line none = quiet (number-of (word 1 line)) make line none
 set-quiet : (line : List ℕ) → brought (set-of line) line ≡ []
 unfolding brought
 set-quiet line = number-quiet (λ c. set-mode-of c line) line (λ c. quiet (mode-of (word 2 line)) (λ m. Set c m) line (λ m. refl))
-
-cond-same : {A : Type 0} (t : Bool) (x : A) → cond t x x ≡ x
-cond-same true x = refl
-cond-same false x = refl
 
 poll-quiet : (w line : List ℕ) → brought (poll-of w) line ≡ []
 unfolding poll-of brought
