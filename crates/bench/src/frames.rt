@@ -3,11 +3,12 @@ use crate::print::hex_or_none;
 use crate::print::numbered;
 use crate::print::right;
 use crate::print::to_column;
+use can::OBJECT_SIZE;
 use can::OBJECTS;
 use can::RAM_SIZE;
+use core_layout::head::identifier_at;
 use frame::identifier::is_extended;
 use frame::identifier::is_fd;
-use layout::read::identifier_at;
 use text::put::put;
 use text::put::put_hexadecimal;
 
@@ -20,7 +21,7 @@ pub fn identifier_in(ram: &[u8], object: u32) -> u32 {
     if ram.len() != RAM_SIZE {
         return 0;
     }
-    identifier_at(ram, h)
+    identifier_at(ram, OBJECT_SIZE, h)
 }
 
 // An identifier without the two marks, which follow it in words.

@@ -8,7 +8,7 @@ use crate::night::origin;
 use crate::print::numbered;
 use crate::print::right;
 use can::OBJECTS;
-use layout::notification::WORDS;
+use core_layout::notification::WORDS;
 use text::put::put;
 
 // The four words of a notification.

@@ -7,27 +7,35 @@ use crate::print::count_of;
 use crate::print::numbered;
 use calls::request::Function;
 use calls::request::Request;
+use can::CONTROLLERS;
+use can::OBJECTS;
 use can::RAM_SIZE;
 use can::Rejection;
 use can::SHEET_SIZE;
 use can::State;
 use frame::identifier::is_fd;
 use frame::length::LONGEST_FD;
-use places::at::controller_at;
-use places::at::object_at;
 use requests::request::Wanted;
 use text::put::put;
 
-// The controller of an object.
+// The controller of an object; 0 if there is no such object.
 fn controller_of(state: State, object: u32) -> u64 {
-    let objects = state.objects;
-    object_at(objects, object as usize).controller as u64
+    let h = object as usize;
+    if h < OBJECTS {
+        state.owners[h] as u64
+    } else {
+        0
+    }
 }
 
-// The mode of a controller.
+// The mode of a controller; 0 if there is no such controller.
 fn mode_of(state: State, controller: u32) -> u32 {
-    let controllers = state.controllers;
-    controller_at(controllers, controller as usize).mode as u32
+    let c = controller as usize;
+    if c < CONTROLLERS {
+        state.modes[c] as u32
+    } else {
+        0
+    }
 }
 
 // The controller that a call names, or that of its object.

@@ -3,11 +3,11 @@ use crate::frames::mode;
 use crate::print::count_of;
 use crate::print::numbered;
 use crate::print::right;
-use can::Controller;
-use can::Mailbox;
-use can::ObjectConfig;
 use can::State;
-use places::range::limited;
+use core_places::controller::Controller;
+use core_places::mailbox::Mailbox;
+use core_places::owner::Owner;
+use core_places::range::limited;
 use text::put::put;
 
 // How many controllers and objects are configured.
@@ -67,7 +67,7 @@ fn held(out: &mut [u8], at: usize, receiving: bool, m: Mailbox) -> usize {
     put(out, at, b"sending: free\n")
 }
 
-fn object(out: &mut [u8], at: usize, h: usize, o: ObjectConfig, m: Mailbox) -> usize {
+fn object(out: &mut [u8], at: usize, h: usize, o: Owner, m: Mailbox) -> usize {
     let mut end = put(out, at, b"          object     ");
     end = right(out, end, h as u64, 2);
     end = numbered(out, end, b"  of controller ", o.controller as u64);
@@ -77,23 +77,34 @@ fn object(out: &mut [u8], at: usize, h: usize, o: ObjectConfig, m: Mailbox) -> u
 
 // Each configured controller.
 pub fn controllers(out: &mut [u8], at: usize, state: State) -> usize {
-    let places = state.controllers;
     let count = limited(state.controller_count, can::CONTROLLERS);
     let mut end = at;
     for c in 0..count {
-        end = controller(out, end, c, places[c]);
+        let k = Controller {
+            mode: state.modes[c],
+            requested_mode: state.requests[c],
+            bus_off: state.marks[c],
+        };
+        end = controller(out, end, c, k);
     }
     end
 }
 
 // Each configured object.
 pub fn objects(out: &mut [u8], at: usize, state: State) -> usize {
-    let places = state.objects;
-    let mailboxes = state.mailboxes;
     let count = limited(state.object_count, can::OBJECTS);
     let mut end = at;
     for h in 0..count {
-        end = object(out, end, h, places[h], mailboxes[h]);
+        let o = Owner {
+            controller: state.owners[h],
+            receiving: state.receivings[h],
+        };
+        let m = Mailbox {
+            tx_pending: state.pendings[h],
+            tx_done: state.dones[h],
+            rx_full: state.fulls[h],
+        };
+        end = object(out, end, h, o, m);
     }
     end
 }

@@ -7,11 +7,9 @@ use text::put::put;
 
 // How many frames wait to be sent or confirmed.
 fn waiting(state: State) -> u64 {
-    let mailboxes = state.mailboxes;
     let mut count: u64 = 0;
     for h in 0..can::OBJECTS {
-        let m = mailboxes[h];
-        count = std::num::wrapping_add_u64(count, m.tx_pending as u64);
+        count = std::num::wrapping_add_u64(count, state.pendings[h] as u64);
     }
     count
 }

@@ -5,11 +5,11 @@ use crate::print::hex_or_none;
 use crate::print::numbered;
 use calls::answer::Answer;
 use calls::request::Function;
-use can::Controller;
-use can::Mailbox;
 use can::State;
 use can::Verdict;
-use places::range::limited;
+use core_places::controller::Controller;
+use core_places::mailbox::Mailbox;
+use core_places::range::limited;
 use text::put::put;
 use text::put::put_decimal;
 
@@ -106,21 +106,29 @@ fn mailbox(out: &mut [u8], at: usize, m: Mailbox) -> usize {
 }
 
 fn controllers(out: &mut [u8], at: usize, state: State) -> usize {
-    let places = state.controllers;
     let count = limited(state.controller_count, can::CONTROLLERS);
     let mut end = at;
     for c in 0..count {
-        end = controller(out, end, places[c]);
+        let k = Controller {
+            mode: state.modes[c],
+            requested_mode: state.requests[c],
+            bus_off: state.marks[c],
+        };
+        end = controller(out, end, k);
     }
     end
 }
 
 fn mailboxes(out: &mut [u8], at: usize, state: State) -> usize {
-    let places = state.mailboxes;
     let count = limited(state.object_count, can::OBJECTS);
     let mut end = at;
     for h in 0..count {
-        end = mailbox(out, end, places[h]);
+        let m = Mailbox {
+            tx_pending: state.pendings[h],
+            tx_done: state.dones[h],
+            rx_full: state.fulls[h],
+        };
+        end = mailbox(out, end, m);
     }
     end
 }

@@ -4,9 +4,7 @@ use mathlib.Core.Bool.{Bool, true, false}
 use mathlib.Core.List.{List}
 use Rattle.rules.specs.State.{State}
 use Rattle.rules.specs.Outcome.{Outcome}
-use Rattle.rules.specs.Services as services
-use Rattle.rules.specs.Polls as polls
-use Rattle.rules.specs.Events as events
+use Rattle.rules.specs.Calls as rules
 use Rattle.rules.specs.Can.{Frame, can-format}
 use Rattle.rules.specs.Chip.{chip}
 use Rattle.calls.specs.declared.request.Function.{Function}
@@ -22,22 +20,22 @@ abbrev pub frame : Request → List ℕ → Frame
 frame request bytes = record { identifier = request .identifier; sdu = bytes }
 
 -- what each function makes of the request and its bytes; the number is the length of the sheet
-unfoldable pub outcome-of : Function → Request → List ℕ → State can-format → ℕ → List ℕ → Outcome can-format
-outcome-of Init request bytes s sheet ram = services.init chip can-format s sheet ram bytes
-outcome-of DeInit request bytes s sheet ram = services.deinit chip can-format s sheet ram
-outcome-of Set request bytes s sheet ram = services.set-controller-mode chip can-format s sheet ram (request .controller) (request .number)
-outcome-of Get request bytes s sheet ram = services.get-controller-mode chip can-format s sheet ram (request .controller)
-outcome-of Write request bytes s sheet ram = services.write chip can-format s sheet ram (request .object) (handle request) (frame request bytes)
-outcome-of PollWrite request bytes s sheet ram = polls.main-function-write chip can-format s sheet ram
-outcome-of PollRead request bytes s sheet ram = polls.main-function-read chip can-format s sheet ram
-outcome-of PollMode request bytes s sheet ram = polls.main-function-mode chip can-format s sheet ram
-outcome-of PollBusOff request bytes s sheet ram = polls.main-function-bus-off chip can-format s sheet ram
-outcome-of Sent request bytes s sheet ram = events.tx-complete chip can-format s ram (request .object)
-outcome-of BusOff request bytes s sheet ram = events.bus-off-detected chip can-format s ram (request .controller)
-outcome-of Arrived request bytes s sheet ram = events.frame-arrived chip can-format s sheet ram (request .controller) (frame request bytes)
+unfoldable pub outcome-of : Function → Request → List ℕ → State can-format → ℕ → List ℕ → Outcome (State can-format)
+outcome-of Init request bytes s sheet ram = rules.init chip can-format s sheet ram bytes
+outcome-of DeInit request bytes s sheet ram = rules.deinit chip can-format s sheet ram
+outcome-of Set request bytes s sheet ram = rules.set-controller-mode chip can-format s sheet ram (request .controller) (request .number)
+outcome-of Get request bytes s sheet ram = rules.get-controller-mode chip can-format s sheet ram (request .controller)
+outcome-of Write request bytes s sheet ram = rules.write chip can-format s sheet ram (request .object) (handle request) (frame request bytes)
+outcome-of PollWrite request bytes s sheet ram = rules.main-function-write chip can-format s sheet ram
+outcome-of PollRead request bytes s sheet ram = rules.main-function-read chip can-format s sheet ram
+outcome-of PollMode request bytes s sheet ram = rules.main-function-mode chip can-format s sheet ram
+outcome-of PollBusOff request bytes s sheet ram = rules.main-function-bus-off chip can-format s sheet ram
+outcome-of Sent request bytes s sheet ram = rules.tx-complete chip can-format s ram (request .object)
+outcome-of BusOff request bytes s sheet ram = rules.bus-off-detected chip can-format s ram (request .controller)
+outcome-of Arrived request bytes s sheet ram = rules.frame-arrived chip can-format s sheet ram (request .controller) (frame request bytes)
 
 -- what the request's own function makes of it
-abbrev pub outcome : Request → List ℕ → State can-format → ℕ → List ℕ → Outcome can-format
+abbrev pub outcome : Request → List ℕ → State can-format → ℕ → List ℕ → Outcome (State can-format)
 outcome request bytes s sheet ram = outcome-of (request .function) request bytes s sheet ram
 
 -- the three kinds of call

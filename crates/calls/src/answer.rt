@@ -1,6 +1,6 @@
 // What a call answers beyond its verdict, for every call alike.
 ghost use mathlib.Core.Path.{_≡_};
-ghost use Rattle.answers.specs.Reply as replies;
+ghost use Rattle.core_answers.specs.Reply as replies;
 ghost use Rattle.calls.specs.Answer.{answer-of};
 use can::ArrivalReply;
 use can::ModeReply;

@@ -2,13 +2,12 @@
 ghost use mathlib.Core.Path.{_≡_};
 ghost use mathlib.Core.List.{[]};
 ghost use lib.ListN.{length};
-ghost use Rattle.rules.specs.Services as services;
-ghost use Rattle.rules.specs.Events as events;
+ghost use Rattle.rules.specs.Calls as rules;
 ghost use Rattle.rules.specs.Can.{can-format};
 ghost use Rattle.rules.specs.Chip.{chip};
-ghost use Rattle.places.specs.View.{view};
-ghost use Rattle.answers.specs.Answer.{verdict-reason};
-ghost use Rattle.answers.specs.Performed.{Performed};
+ghost use Rattle.can_state.specs.View.{view};
+ghost use Rattle.core_answers.specs.Answer.{verdict-reason};
+ghost use Rattle.core_answers.specs.Performed.{Performed};
 ghost use Rattle.calls.specs.Answer.{answer-of};
 ghost use Rattle.calls.specs.Request.{handle, frame, outcome, kind, SERVICE, POLL, EVENT};
 use crate::answer::Answer;
@@ -45,8 +44,8 @@ fn with_verdict(called: Called) -> Played
 
 // GetControllerMode, which takes no memory.
 fn get(state: State, sheet: &mut [u32], controller: u32) -> Played
-    ensures { λ r. ⌜ Performed (services.get-controller-mode chip can-format (view state) (length (now (sheet .entry))) [] controller)
-        (verdict-reason (r .verdict)) (answer-of (r .answer)) (r .state) (r .notifications) [] (now (sheet .entry)) (now (sheet .exit)) ⌝ }
+    ensures { λ r. ⌜ Performed (rules.get-controller-mode chip can-format (view state) (length (now (sheet .entry))) [] controller)
+        (verdict-reason (r .verdict)) (answer-of (r .answer)) (view (r .state)) (r .notifications) [] (now (sheet .entry)) (now (sheet .exit)) ⌝ }
 {
     let asked = can::get_controller_mode(state, sheet, controller);
     let next = asked.state;
@@ -64,9 +63,9 @@ fn get(state: State, sheet: &mut [u32], controller: u32) -> Played
 // Write.
 fn write(state: State, ram: &mut [u8], sheet: &mut [u32], data: &[u8], request: Request) -> Played
     ensures { λ r. ⌜ Performed
-        (services.write chip can-format (view state) (length (now (sheet .entry))) (now (ram .entry)) (request .object) (handle request)
+        (rules.write chip can-format (view state) (length (now (sheet .entry))) (now (ram .entry)) (request .object) (handle request)
         (frame request (now («data» .entry))))
-        (verdict-reason (r .verdict)) (answer-of (r .answer)) (r .state) (r .notifications) (now (ram .exit)) (now (sheet .entry)) (now (sheet .exit)) ⌝ }
+        (verdict-reason (r .verdict)) (answer-of (r .answer)) (view (r .state)) (r .notifications) (now (ram .exit)) (now (sheet .entry)) (now (sheet .exit)) ⌝ }
 {
     let handle = (request.number % 65536) as u16;
     let written = can::write(
@@ -93,9 +92,9 @@ fn write(state: State, ram: &mut [u8], sheet: &mut [u32], data: &[u8], request: 
 // Arrived.
 fn arrived(state: State, ram: &mut [u8], sheet: &mut [u32], data: &[u8], request: Request) -> Played
     ensures { λ r. ⌜ Performed
-        (events.frame-arrived chip can-format (view state) (length (now (sheet .entry))) (now (ram .entry)) (request .controller)
+        (rules.frame-arrived chip can-format (view state) (length (now (sheet .entry))) (now (ram .entry)) (request .controller)
         (frame request (now («data» .entry))))
-        (verdict-reason (r .verdict)) (answer-of (r .answer)) (r .state) (r .notifications) (now (ram .exit)) (now (sheet .entry)) (now (sheet .exit)) ⌝ }
+        (verdict-reason (r .verdict)) (answer-of (r .answer)) (view (r .state)) (r .notifications) (now (ram .exit)) (now (sheet .entry)) (now (sheet .exit)) ⌝ }
 {
     let arrived = can::frame_arrived(
         state,
@@ -117,11 +116,11 @@ fn arrived(state: State, ram: &mut [u8], sheet: &mut [u32], data: &[u8], request
     }
 }
 
-// The services.
+// The rules.
 fn service(state: State, ram: &mut [u8], sheet: &mut [u32], data: &[u8], request: Request) -> Played
     requires { ⌜ kind (request .function) ≡ SERVICE ⌝ }
     ensures { λ r. ⌜ Performed (outcome request (now («data» .entry)) (view state) (length (now (sheet .entry))) (now (ram .entry)))
-        (verdict-reason (r .verdict)) (answer-of (r .answer)) (r .state) (r .notifications) (now (ram .exit)) (now (sheet .entry)) (now (sheet .exit)) ⌝ }
+        (verdict-reason (r .verdict)) (answer-of (r .answer)) (view (r .state)) (r .notifications) (now (ram .exit)) (now (sheet .entry)) (now (sheet .exit)) ⌝ }
 {
     let function = request.function;
     match function {
@@ -142,7 +141,7 @@ fn service(state: State, ram: &mut [u8], sheet: &mut [u32], data: &[u8], request
 fn poll(state: State, ram: &[u8], sheet: &mut [u32], data: &[u8], request: Request) -> Played
     requires { ⌜ kind (request .function) ≡ POLL ⌝ }
     ensures { λ r. ⌜ Performed (outcome request (now («data» .entry)) (view state) (length (now (sheet .entry))) (now (ram .entry)))
-        (verdict-reason (r .verdict)) (answer-of (r .answer)) (r .state) (r .notifications) (now (ram .entry)) (now (sheet .entry)) (now (sheet .exit)) ⌝ }
+        (verdict-reason (r .verdict)) (answer-of (r .answer)) (view (r .state)) (r .notifications) (now (ram .entry)) (now (sheet .entry)) (now (sheet .exit)) ⌝ }
 {
     let function = request.function;
     match function {
@@ -153,11 +152,11 @@ fn poll(state: State, ram: &[u8], sheet: &mut [u32], data: &[u8], request: Reque
     }
 }
 
-// The events.
+// The rules.
 fn event(state: State, ram: &mut [u8], sheet: &mut [u32], data: &[u8], request: Request) -> Played
     requires { ⌜ kind (request .function) ≡ EVENT ⌝ }
     ensures { λ r. ⌜ Performed (outcome request (now («data» .entry)) (view state) (length (now (sheet .entry))) (now (ram .entry)))
-        (verdict-reason (r .verdict)) (answer-of (r .answer)) (r .state) (r .notifications) (now (ram .exit)) (now (sheet .entry)) (now (sheet .exit)) ⌝ }
+        (verdict-reason (r .verdict)) (answer-of (r .answer)) (view (r .state)) (r .notifications) (now (ram .exit)) (now (sheet .entry)) (now (sheet .exit)) ⌝ }
 {
     let function = request.function;
     match function {
@@ -176,7 +175,7 @@ pub fn perform(
     request: Request,
 ) -> Played
     ensures { λ r. ⌜ Performed (outcome request (now («data» .entry)) (view state) (length (now (sheet .entry))) (now (ram .entry)))
-        (verdict-reason (r .verdict)) (answer-of (r .answer)) (r .state) (r .notifications) (now (ram .exit)) (now (sheet .entry)) (now (sheet .exit)) ⌝ }
+        (verdict-reason (r .verdict)) (answer-of (r .answer)) (view (r .state)) (r .notifications) (now (ram .exit)) (now (sheet .entry)) (now (sheet .exit)) ⌝ }
 {
     let function = request.function;
     match function {

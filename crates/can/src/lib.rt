@@ -21,65 +21,62 @@ pub use chip::OBJECTS;
 pub use chip::RAM_SIZE;
 pub use chip::SHEET_SIZE;
 
-// The driver state and its parts, and the state before initialisation.
-pub use places::controller::Controller;
-pub use places::mailbox::Mailbox;
-pub use places::object::ObjectConfig;
-pub use places::state::State;
-pub use places::state::initial_state;
+// The driver state, and the state before initialisation.
+pub use can_state::state::State;
+pub use can_state::state::initial_state;
 
 // What the calls answer: a verdict or a reply, why a call is refused, and the numbers of both.
-pub use answers::called::Arrived;
-pub use answers::called::Called;
-pub use answers::called::ModeAsked;
-pub use answers::called::Written;
-pub use answers::rejection::Rejection;
-pub use answers::rejection::reason;
-pub use answers::reply::ArrivalReply;
-pub use answers::reply::ModeReply;
-pub use answers::reply::WriteReply;
-pub use answers::reply::arrival_verdict;
-pub use answers::reply::mode_verdict;
-pub use answers::reply::write_verdict;
-pub use answers::verdict::Verdict;
-pub use answers::verdict::return_code;
-pub use answers::verdict::verdict_reason;
+pub use can_state::called::Arrived;
+pub use can_state::called::Called;
+pub use can_state::called::ModeAsked;
+pub use can_state::called::Written;
+pub use core_answers::rejection::Rejection;
+pub use core_answers::rejection::reason;
+pub use core_answers::reply::ArrivalReply;
+pub use core_answers::reply::ModeReply;
+pub use core_answers::reply::WriteReply;
+pub use core_answers::reply::arrival_verdict;
+pub use core_answers::reply::mode_verdict;
+pub use core_answers::reply::write_verdict;
+pub use core_answers::verdict::Verdict;
+pub use core_answers::verdict::return_code;
+pub use core_answers::verdict::verdict_reason;
 
 // Init: takes a configuration from bytes. Controllers are STOPPED afterwards, and the RAM is zero.
-pub use initialisation::init::init;
+pub use can_services::init::init;
 
 // DeInit: back to the state before Init, unless a controller is STARTED.
-pub use deinitialisation::deinit::deinit;
+pub use can_services::deinit::deinit;
 
 // SetControllerMode: asks for STARTED (1), STOPPED (2) or SLEEP (3); the next mode poll takes the request.
-pub use controller_modes::set_controller_mode::set_controller_mode;
+pub use can_services::set_controller_mode::set_controller_mode;
 
 // GetControllerMode: the mode that a controller is in now.
-pub use controller_modes::get_controller_mode::get_controller_mode;
+pub use can_services::get_controller_mode::get_controller_mode;
 
 // Write: lays a frame down in a sending object, whole, and keeps the object until the frame is confirmed or cancelled.
-pub use transmission::write::write;
+pub use can_transmission::write::write;
 
 // Write poll: confirms every frame that was sent, and frees its object.
-pub use write_poll::write::main_function_write;
+pub use can_polls::objects::main_function_write;
 
 // Read poll: indicates every frame that was received, and empties its object.
-pub use read_poll::read::main_function_read;
+pub use can_polls::objects::main_function_read;
 
 // Mode poll: carries out the waiting requests; a controller that leaves STARTED has its frames cancelled first.
-pub use mode_poll::mode::main_function_mode;
+pub use can_polls::controllers::main_function_mode;
 
 // Bus-off poll: cancels the frames of every controller that went off the bus, and stops it.
-pub use bus_off_poll::bus_off::main_function_bus_off;
+pub use can_polls::controllers::main_function_bus_off;
 
 // Sent: the simulated controller has sent the frame of an object.
-pub use events::tx_complete::tx_complete;
+pub use can_events::tx_complete::tx_complete;
 
 // Bus-off: the simulated controller went off the bus.
-pub use events::bus_off_detected::bus_off_detected;
+pub use can_events::bus_off_detected::bus_off_detected;
 
 // Arrived: a frame came in. It is stored, unwanted or lost.
-pub use arrivals::frame_arrived::frame_arrived;
+pub use can_arrivals::frame_arrived::frame_arrived;
 
 // Data of an object: the part of the RAM that holds its data.
 pub use layout::read::data_of;

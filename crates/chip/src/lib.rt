@@ -1,6 +1,7 @@
 // The limits of this chip in code: the one place that names them. Each limit has a function whose contract says that it is the
 // rules' own, so that a wrong number is refused here.
 ghost use mathlib.Core.Path.{_≡_};
+ghost use mathlib.Core.Bool.{cond};
 ghost use Rattle.rules.specs.Limits.{ram-size, notification-limit, sheet-size};
 ghost use Rattle.rules.specs.Chip as rules;
 
@@ -12,6 +13,9 @@ pub const OBJECTS: usize = 32;
 
 // Bytes of message RAM for each object.
 pub const OBJECT_SIZE: usize = 72;
+
+// Whether an object's length has two bytes, and not one.
+pub const TWO_LENGTH_BYTES: bool = false;
 
 // Bytes of message RAM.
 pub const RAM_SIZE: usize = OBJECT_SIZE * OBJECTS;
@@ -41,6 +45,13 @@ pub fn object_size() -> usize
     ensures { λ r. ⌜ r ≡ rules.chip .object-size ⌝ }
 {
     OBJECT_SIZE
+}
+
+// The bytes of an object's length, two or one, as the rules have them.
+pub fn two_length_bytes() -> bool
+    ensures { λ r. ⌜ cond r 2 1 ≡ rules.chip .length-size ⌝ }
+{
+    TWO_LENGTH_BYTES
 }
 
 // Bytes of message RAM, as the rules have them.

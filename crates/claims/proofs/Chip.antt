@@ -24,7 +24,7 @@ chip-valid-rule = valid-rule chip can-format can-lawful
 
 -- demand 2: which writes are accepted, both ways. Every accepted write had a sound state, and sheet and memory of the required size.
 pub chip-write-rule : CanWriteRule chip
-chip-write-rule = can-write-rule chip can-lawful
+chip-write-rule = can-write-rule chip
 
 -- demand 2: what a write poll reports
 pub chip-poll-rule : PollRule chip can-format

@@ -10,12 +10,15 @@ use Rattle.rules.specs.Repeat.{rising, all-below, list-below, better, best-belo
 use Rattle.rules.specs.Bytes.{big-endian, number, splice, same-bytes}
 use Rattle.rules.specs.Mode.{STARTED, STOPPED}
 use Rattle.rules.specs.Reason.{first-reason, return-code}
+use Rattle.rules.specs.Core.{mailbox-at, core-valid}
 use Rattle.rules.specs.Configuration.{configuration-of, accepted-bytes}
-use Rattle.rules.specs.State.{State, valid, initial-state, mailbox-at}
-use Rattle.rules.specs.Outcome.{judged}
-use Rattle.rules.specs.Services.{init, set-controller-mode, write}
-use Rattle.rules.specs.Polls.{main-function-write, main-function-read, main-function-mode, main-function-bus-off, cancel-all, confirmed, indicated, modes-changed, buses-off}
-use Rattle.rules.specs.Events.{tx-complete, bus-off-detected, frame-arrived, best-object}
+use Rattle.rules.specs.State.{State, valid, initial-state}
+use Rattle.rules.specs.Outcome.{judged, state-gate, sheet-gate, full-gate}
+use Rattle.rules.specs.Services as services
+use Rattle.rules.specs.Polls as polls
+use Rattle.rules.specs.Polls.{visit-all, turn-all}
+use Rattle.rules.specs.Events as events
+use Rattle.rules.specs.Calls.{init, set-controller-mode, write, main-function-write, main-function-read, main-function-mode, main-function-bus-off, tx-complete, bus-off-detected, frame-arrived}
 use Rattle.rules.specs.Can.{Frame, can-format, next-length, lengths-below, object-bytes}
 use Rattle.rules.specs.Chip.{chip}
 use Rattle.history.specs.Call.{Call, Init, SetControllerMode, Write, MainFunctionRead, MainFunctionMode, MainFunctionBusOff, BusOffDetected, FrameArrived, performed}
@@ -68,13 +71,13 @@ between =
 
 -- PollRule: object 0 is sent, all this comes between, and then the write poll
 pub sent-then-polled : SentThenPolled chip can-format 0 before between ram sheet
-unfolding rising all-below list-below better best-below big-endian number splice same-bytes first-reason return-code configuration-of accepted-bytes valid judged init set-controller-mode write main-function-write main-function-read main-function-mode main-function-bus-off cancel-all confirmed indicated modes-changed buses-off tx-complete bus-off-detected frame-arrived best-object next-length lengths-below object-bytes performed trace left-by force-by reference-by
+unfolding rising all-below list-below better best-below big-endian number splice same-bytes first-reason return-code configuration-of accepted-bytes core-valid valid judged state-gate sheet-gate full-gate init set-controller-mode write main-function-write main-function-read main-function-mode main-function-bus-off tx-complete bus-off-detected frame-arrived services.set-controller-mode polls.main-function-write polls.main-function-read polls.main-function-mode polls.main-function-bus-off visit-all turn-all events.tx-complete events.bus-off-detected events.best-object next-length lengths-below object-bytes performed trace left-by force-by reference-by
 sent-then-polled = record { sent = refl; none-came = (refl, (refl, (refl, (refl, (refl, (refl, (refl, tt))))))); polled = refl }
 
 -- ValidRule and ReceivedRule: a sound state in which object 3 is full
 abbrev pub full-state : State can-format
 full-state = left-by chip can-format (before ++ (FrameArrived sheet 0 frame ∷ [])) (initial-state chip can-format) ram .state
 
-pub full-and-sound : (valid chip can-format full-state ≡ true) × (mailbox-at (full-state .mailboxes) 3 .rx-full ≡ true)
-unfolding rising all-below list-below better best-below big-endian number splice same-bytes first-reason return-code configuration-of accepted-bytes valid judged init set-controller-mode write main-function-mode cancel-all modes-changed frame-arrived best-object next-length lengths-below object-bytes performed left-by
+pub full-and-sound : (valid chip can-format full-state ≡ true) × (mailbox-at (full-state .core .mailboxes) 3 .rx-full ≡ true)
+unfolding rising all-below list-below better best-below big-endian number splice same-bytes first-reason return-code configuration-of accepted-bytes core-valid valid judged sheet-gate full-gate init set-controller-mode write main-function-mode frame-arrived services.set-controller-mode polls.main-function-mode visit-all turn-all events.best-object next-length lengths-below object-bytes performed left-by
 full-and-sound = (refl, refl)

@@ -8,8 +8,8 @@ use Rattle.rules.specs.Can.{Frame, can-format}
 use Rattle.rules.specs.Chip.{chip}
 use Rattle.history.specs.Call.{Call, Init, SetControllerMode, MainFunctionMode, Write}
 use Rattle.history.specs.Trace.{left-by}
-use Rattle.places.specs.View.{view}
-use Rattle.places.specs.declared.state.State.{State}
+use Rattle.can_state.specs.View.{view}
+use Rattle.can_state.specs.declared.state.State.{State}
 
 -- Init, a request for STARTED, a mode poll, and a write
 abbrev pub plan : List ℕ → List ℕ → ℕ → (handle : ℕ) → handle < 2 ^ 16 → Frame → List (Call can-format)

@@ -1,13 +1,15 @@
 -- The proofs of demand 3, of the poll rule, of demand 1 and of what operators ask.
+pub mod Judged
+pub mod Notices
+pub mod Sweeps
 pub mod Steps
-pub mod Effects
 pub mod Bounded
 pub mod Modes
 pub mod Objects
-pub mod Proved
 pub mod Untouched
 pub mod Quiet
 pub mod OwnHandle
 pub mod PollRule
+pub mod Proved
 pub mod Demand1
 pub mod Operators

@@ -1,61 +1,57 @@
 -- What operators ask of the polls, proved.
 use Prim.Native.Nat.{ℕ}
 use mathlib.Core.Path.{_≡_, refl}
-use mathlib.Core.Bool.{true, false}
+use mathlib.Core.Bool.{true}
 use mathlib.Core.List.{List}
-use mathlib.Core.Logic.{_⊎_, inl, inr}
+use lib.Dec.{eqb}
+use borrow.Author.Tests.{ne-eqb}
 use Rattle.rules.specs.Limits.{Limits}
 use Rattle.rules.specs.Format.{Format}
-use Rattle.rules.specs.Configuration.{object-at}
-use Rattle.rules.specs.State.{State, valid, mailbox-at}
-use Rattle.rules.specs.Services.{with-mailboxes}
-use Rattle.rules.specs.Polls.{Boxes, boxes-of, sweep-of, confirmed, modes-changed, buses-off, polled, after-sweep, main-function-write, main-function-mode, main-function-bus-off}
+use Rattle.rules.specs.Core.{Core, owner-at, mailbox-at}
+use Rattle.rules.specs.State.{State, valid}
+use Rattle.rules.specs.Outcome.{Outcome, lifted, full-gate}
+use Rattle.rules.specs.Polls as polls
+use Rattle.rules.specs.Polls.{Boxes, boxes-of, confirmation, mode-change, going-off, polled}
+use Rattle.rules.specs.Calls.{main-function-write, main-function-mode, main-function-bus-off}
 use Rattle.history.specs.Operators.{closed-in, ObjectKept, OthersKept, FrameSurvives, OthersRule, ReceivedRule}
-use Rattle.laws.proofs.Tests.{clash, decide}
+use Rattle.laws.proofs.Tests.{right, both, clash}
 use Rattle.laws.proofs.Reasons.{judged-either}
-use Rattle.laws.proofs.Validity.{valid-facts}
+use Rattle.laws.proofs.Validity.{core-facts, state-core}
 use Rattle.history.proofs.Objects.{mailbox-flags}
-use Rattle.history.proofs.Untouched.{Untouched, at-first, confirmed-untouched, modes-untouched, buses-off-untouched}
-use Rattle.history.proofs.Quiet.{modes-leave, buses-off-leave}
+use Rattle.history.proofs.Untouched.{Untouched, at-first, visits-untouched, turns-untouched}
+use Rattle.history.proofs.Quiet.{staying-untouched}
 
 module _ (L : Limits) (F : Format) (s : State F) (sheet : ℕ) (ram : List ℕ) (h : ℕ) where
   -- a poll whose sweep leaves the object untouched keeps it, refused or not
-  poll-keeps : (next : State F) (b : Boxes) → next .mailboxes ≡ b .mailboxes → Untouched h (mailbox-at (s .mailboxes) h) b
-      → ObjectKept L F s sheet ram h (polled L F s sheet ram next (b .notifications))
+  poll-keeps : (next : Core) (b : Boxes) → next .mailboxes ≡ b .mailboxes → Untouched h (mailbox-at (s .core .mailboxes) h) b
+      → ObjectKept L F s sheet ram h (lifted s (polled (full-gate L F s sheet ram) (s .core) ram next (b .notifications)))
   unfolding closed-in
   poll-keeps next b e u =
-      judged-either F (ObjectKept L F s sheet ram h) _ _ _
+      judged-either (λ (o : Outcome Core). ObjectKept L F s sheet ram h (lifted s o)) _ _ _
       (record { mailbox = refl; bytes = refl; not-closed = refl })
       (λ r. record { mailbox = rw e (u .same); bytes = refl; not-closed = u .unclosed })
 
   others-kept : OthersKept L F s sheet ram h
-  unfolding main-function-mode main-function-bus-off
+  unfolding main-function-mode main-function-bus-off polls.main-function-mode polls.main-function-bus-off
   others-kept =
-      let c = object-at L F (s .configuration) h .controller in
+      let c = owner-at (s .core .owners) h .controller in
       record {
-        mode-poll = λ e. poll-keeps (after-sweep L F s (modes-changed L F s ram)) (modes-changed L F s ram .boxes) refl (modes-leave L F h s ram c refl e);
-        bus-off-poll = λ e. poll-keeps (after-sweep L F s (buses-off L F s ram)) (buses-off L F s ram .boxes) refl (buses-off-leave L F h s ram c refl e);
+        mode-poll = λ e. poll-keeps _ _ refl (staying-untouched (L .object-size) mode-change (s .core) ram h (λ k x. refl) c refl (λ due leaves. clash (both due leaves) e));
+        bus-off-poll = λ e. poll-keeps _ _ refl (staying-untouched (L .object-size) going-off (s .core) ram h (λ k x. refl) c refl (λ due leaves. clash due e));
       }
 
-  frame-survives : valid L F s ≡ true → mailbox-at (s .mailboxes) h .rx-full ≡ true → FrameSurvives L F s sheet ram h
-  unfolding main-function-write main-function-mode main-function-bus-off confirmed modes-changed buses-off
+  frame-survives : valid L F s ≡ true → mailbox-at (s .core .mailboxes) h .rx-full ≡ true → FrameSurvives L F s sheet ram h
+  unfolding main-function-write main-function-mode main-function-bus-off polls.main-function-write polls.main-function-mode polls.main-function-bus-off
   frame-survives sound full =
-      let m = mailbox-at (s .mailboxes) h in
-      let flags = mailbox-flags L F s (valid-facts L F s sound) h in
+      let m = mailbox-at (s .core .mailboxes) h in
+      let flags = mailbox-flags L (s .core) (core-facts L (s .core) (state-core L F s sound)) h in
       let free = flags .full-free full in
-      let begin = at-first L F s h in
-      let n = s .configuration .controller-count in
+      let begin = at-first (s .core) h in
       record {
-        write-poll = poll-keeps (with-mailboxes L F s (confirmed L F s ram .mailboxes)) (confirmed L F s ram) refl (confirmed-untouched L F ram h m (not-done (decide (m .tx-done))) (s .configuration .object-count) (boxes-of L F s) begin);
-        mode-poll = poll-keeps (after-sweep L F s (modes-changed L F s ram)) (modes-changed L F s ram .boxes) refl (modes-untouched L F ram h m (s .configuration) (sweep-of L F s) (λ i t same pending. clash pending free) begin n);
-        bus-off-poll = poll-keeps (after-sweep L F s (buses-off L F s ram)) (buses-off L F s ram .boxes) refl (buses-off-untouched L F ram h m (s .configuration) (sweep-of L F s) (λ i t same pending. clash pending free) begin n);
+        write-poll = poll-keeps _ _ refl (visits-untouched h m (confirmation (L .object-size) ram) (λ done. clash (flags .done-pending done) free) (λ i x d. ne-eqb i h d) (s .core .object-count) (boxes-of (s .core)) begin);
+        mode-poll = poll-keeps _ _ refl (turns-untouched h m (L .object-size) mode-change (s .core) ram (λ k x. refl) (λ c due leaves e. clash (right (eqb (owner-at (s .core .owners) h .controller) c) (m .tx-pending) e) free) begin);
+        bus-off-poll = poll-keeps _ _ refl (turns-untouched h m (L .object-size) going-off (s .core) ram (λ k x. refl) (λ c due leaves e. clash (right (eqb (owner-at (s .core .owners) h .controller) c) (m .tx-pending) e) free) begin);
       }
-    where
-      not-done : (mailbox-at (s .mailboxes) h .tx-done ≡ true) ⊎ (mailbox-at (s .mailboxes) h .tx-done ≡ false) → mailbox-at (s .mailboxes) h .tx-done ≡ false
-      not-done (inr e) = e
-      not-done (inl e) =
-          let flags = mailbox-flags L F s (valid-facts L F s sound) h in
-          clash (flags .done-pending e) (flags .full-free full)
 
 pub others-rule : (L : Limits) (F : Format) → OthersRule L F
 others-rule = others-kept

@@ -8,7 +8,7 @@ use Rattle.rules.specs.Limits.{Limits}
 use Rattle.rules.specs.Format.{Format}
 use Rattle.rules.specs.Bytes.{same-bytes}
 use Rattle.rules.specs.Notification.{Notification, tx-confirmation, rx-indication, mode-indication, bus-off-indication, development-error, data-lost, tx-cancellation}
-use Rattle.rules.specs.Configuration.{Configuration, object-at, no-configuration}
+use Rattle.rules.specs.Configuration.{Configuration, settings-at, no-configuration}
 use Rattle.rules.specs.Polls.{object-in}
 use Rattle.history.specs.Call.{Call}
 use Rattle.history.specs.Trace.{Step}
@@ -57,7 +57,7 @@ module _ (L : Limits) (F : Format) (h : ℕ) where
 
   owned-compared : (k : ℕ) (ram : List ℕ) (a : Account) → Owned a k → Owned (compared L F h ram a) k
   owned-compared k ram closed p = tt
-  owned-compared k ram (held j b sent) p = cond-both (λ (x : Account). Owned x k) (same-bytes (object-in L F ram h) b) (held j b sent) broken (λ t. p) (λ t. tt)
+  owned-compared k ram (held j b sent) p = cond-both (λ (x : Account). Owned x k) (same-bytes (object-in (L .object-size) ram h) b) (held j b sent) broken (λ t. p) (λ t. tt)
   owned-compared k ram broken p = tt
 
   owned-write : (handle : ℕ) (bytes : List ℕ) (a : Account) → Owned (after-write handle bytes a) handle
@@ -71,7 +71,7 @@ module _ (L : Limits) (F : Format) (h : ℕ) where
   owned-sent k broken p = tt
 
   owned-own : (cfg : Configuration F) (k : ℕ) (a : Account) (x : AtObject F) → Owned a k → Owned (after-own L F h cfg a x) (handle-of L F k x)
-  owned-own cfg k a (written handle frame) p = owned-write handle (F .object-bytes (object-at L F cfg h .settings) handle frame) a
+  owned-own cfg k a (written handle frame) p = owned-write handle (F .object-bytes (settings-at F (cfg .settings) h) handle frame) a
   owned-own cfg k a completed p = owned-sent k a p
 
   owned-effect : (cfg : Configuration F) (k : ℕ) (a : Account) (e : Effect F) → Owned a k → Owned (after-effect L F h cfg a e) (handle-after L F h k e)

@@ -6,7 +6,6 @@ use mathlib.Core.List.{List, [], _∷_, _++_}
 use mathlib.Core.Logic.{_⊎_, inl, inr, ⊎-elim}
 use native.Mathlib.Omega.{arith}
 use native.Mathlib.Decide.{decLt}
-use lib.ListN.{length}
 use lib.Dec.{eqb}
 use borrow.Author.Tests.{eq-eqb}
 use Rattle.rules.specs.Limits.{Limits}
@@ -14,49 +13,32 @@ use Rattle.rules.specs.Format.{Format, Lawful}
 use Rattle.rules.specs.Head.{handle-in}
 use Rattle.rules.specs.Repeat.{rising}
 use Rattle.rules.specs.Bytes.{same-bytes}
-use Rattle.rules.specs.Reason.{first-reason}
-use Rattle.rules.specs.Notification.{Notification, tx-confirmation, rx-indication, mode-indication, bus-off-indication, development-error, data-lost, tx-cancellation}
-use Rattle.rules.specs.Configuration.{Configuration, object-at, no-configuration}
-use Rattle.rules.specs.State.{Mailbox, State, initial-state, empty-mailbox, idle-controller, mailbox-at, controller-at}
-use Rattle.rules.specs.Outcome.{Outcome, Answer, no-answer, service-report, rejected, judged, full-gate}
-use Rattle.rules.specs.Services.{init, deinit, INIT, DEINIT}
-use Rattle.rules.specs.Polls.{Boxes, by-sent, object-in, close, confirm-one, boxes-of, confirmed, main-function-write}
+use Rattle.rules.specs.Notification.{Notification, tx-confirmation}
+use Rattle.rules.specs.Core.{Mailbox, empty-mailbox, idle-controller, controller-at, owner-at, mailbox-at}
+use Rattle.rules.specs.Configuration.{Configuration, no-configuration}
+use Rattle.rules.specs.State.{State, initial-state}
+use Rattle.rules.specs.Outcome.{Outcome}
+use Rattle.rules.specs.Polls.{Boxes, Visit, object-in, visit-one, visit-all, boxes-of, confirmation}
 use Rattle.history.specs.Call.{Call, Init, DeInit, SetControllerMode, GetControllerMode, Write, MainFunctionWrite, MainFunctionRead, MainFunctionMode, MainFunctionBusOff, TxComplete, BusOffDetected, FrameArrived, performed}
 use Rattle.history.specs.Trace.{trace, left-by, is-accepted}
 use Rattle.history.specs.Effect.{AtObject, written, completed, Effect, nothing, configuring, at-object, at-controller, polling, accepted-effect, effect}
-use Rattle.history.specs.Account.{Account, closed, held, broken, after-sent, after-notification, after-notifications, in-force, force-by, after-own, after-effect, compared, account-after, account}
+use Rattle.history.specs.Account.{Account, closed, held, broken, after-sent, in-force, force-by, after-own, after-effect, compared, account-after, account}
 use Rattle.history.specs.Reference.{entry, Reference, at-first, reference-after}
 use Rattle.history.specs.PollRule.{Reported, NoneCame, own-handle, own-controller, PollRule}
-use Rattle.history.specs.Operators.{closes, closed-in}
-use Rattle.laws.proofs.Tests.{clash, cond-both, neither}
+use Rattle.history.specs.Operators.{closed-in}
+use Rattle.laws.proofs.Tests.{clash, cond-both}
 use Rattle.laws.proofs.Repeat.{last-or-below, replicate-default}
-use Rattle.laws.proofs.Reasons.{judged-cases, rejected-code}
-use Rattle.laws.proofs.Validity.{valid-facts}
+use Rattle.laws.proofs.Reasons.{rejected-code}
+use Rattle.laws.proofs.Validity.{core-facts, state-core}
 use Rattle.laws.proofs.Sweeps.{boxes-above}
-use Rattle.laws.proofs.Cancelling.{confirm-step}
 use Rattle.laws.proofs.StaysValid.{initial-valid}
-use Rattle.history.proofs.Effects.{either-effect, either-object}
+use Rattle.history.proofs.Judged.{judgement, performed-cases}
+use Rattle.history.proofs.Notices.{unclosed}
+use Rattle.history.proofs.Sweeps.{freed}
 use Rattle.history.proofs.Modes.{performed-follows, reference-list}
 use Rattle.history.proofs.Objects.{Matches, Follows, follows-on, follows-first, unused-empty}
 use Rattle.history.proofs.OwnHandle.{own-handle-held}
 use Rattle.history.proofs.Quiet.{performed-quiet}
-
--- a notification that does not close the object leaves its account
-unclosed-one : (h : ℕ) (n : Notification) (x : Account) → closes h n ≡ false → after-notification h x n ≡ x
-unclosed-one h (tx-confirmation i handle) x e = rw e
-unclosed-one h (tx-cancellation i handle) x e = rw e
-unclosed-one h (rx-indication i identifier len) x e = refl
-unclosed-one h (mode-indication c m) x e = refl
-unclosed-one h (bus-off-indication c) x e = refl
-unclosed-one h (development-error service error) x e = refl
-unclosed-one h (data-lost i) x e = refl
-
-unclosed : (h : ℕ) (ns : List Notification) (x : Account) → closed-in h ns ≡ false → after-notifications h x ns ≡ x
-unfolding closed-in after-notifications
-unclosed h [] x e = refl
-unclosed h (n ∷ ns) x e =
-    let none-closed = neither (closes h n) (closed-in h ns) e in
-    ap (λ (y : Account). after-notifications h y ns) (unclosed-one h n x (none-closed .0)) ∙ unclosed h ns x (none-closed .1)
 
 reported-front : (n : Notification) (xs ys : List Notification) → Reported n xs → Reported n (xs ++ ys)
 reported-front n [] ys r = absurd r
@@ -66,6 +48,28 @@ reported-front n (x ∷ xs) ys (inr r) = inr (reported-front n xs ys r)
 reported-last : (n : Notification) (xs : List Notification) → Reported n (xs ++ (n ∷ []))
 reported-last n [] = inl refl
 reported-last n (x ∷ xs) = inr (reported-last n xs)
+
+-- a sweep over the objects tells of each one that is due
+module _ (h : ℕ) (v : Visit) (b : Boxes) (due : v .due h (mailbox-at (b .mailboxes) h) ≡ true) where
+  abbrev notice : Notification
+  notice = v .note h (mailbox-at (b .mailboxes) h)
+
+  told-of : (n : ℕ) → h < n → Reported notice (visit-all v n b .notifications)
+  unfolding visit-all rising
+  told-of zero l = absurd (omega arith)
+  told-of (suc n) l = ⊎-elim here (λ (k : h < n). later (told-of n k)) (last-or-below n h l)
+    where
+      here : h ≡ n → Reported notice (visit-one v n (rising n (visit-one v) b) .notifications)
+      here e =
+          subst (λ (i : ℕ). Reported notice (visit-one v i (rising i (visit-one v) b) .notifications)) e
+          (rw (boxes-above v b h h (omega arith), due) (reported-last notice (rising h (visit-one v) b .notifications)))
+
+      later : Reported notice (rising n (visit-one v) b .notifications) → Reported notice (visit-one v n (rising n (visit-one v) b) .notifications)
+      later told =
+          let w = rising n (visit-one v) b in
+          cond-both (λ (x : Boxes). Reported notice (x .notifications)) (v .due n (mailbox-at (w .mailboxes) n)) (freed v n w) w
+          (λ t. reported-front notice (w .notifications) _ told)
+          (λ t. told)
 
 module _ (L : Limits) (F : Format) (h : ℕ) where
   -- a write that is open and sent stays so, or the account breaks
@@ -85,19 +89,19 @@ module _ (L : Limits) (F : Format) (h : ℕ) where
   effect-of-held cfg k b (polling x) = inl refl
 
   compared-held : (ram : List ℕ) (k : ℕ) (b : List ℕ) → (compared L F h ram (held k b true) ≡ held k b true) ⊎ (compared L F h ram (held k b true) ≡ broken)
-  compared-held ram k b = go (same-bytes (object-in L F ram h) b)
+  compared-held ram k b = go (same-bytes (object-in (L .object-size) ram h) b)
     where
       go : (t : Bool) → (cond t (held k b true) broken ≡ held k b true) ⊎ (cond t (held k b true) broken ≡ broken)
       go true = inl refl
       go false = inr refl
 
   -- a broken account agrees with nothing
-  not-broken : (m : Mailbox) (bytes : List ℕ) (a : Account) → Matches L F h m bytes a → a ≡ broken → ⊥
-  not-broken m bytes a p e = subst (λ (x : Account). Matches L F h m bytes x) e p
+  not-broken : (m : Mailbox) (bytes : List ℕ) (a : Account) → Matches m bytes a → a ≡ broken → ⊥
+  not-broken m bytes a p e = subst (λ (x : Account). Matches m bytes x) e p
 
-  module _ (e : Effect F) (o : Outcome F) (unchanged : closed-in h (o .notifications) ≡ false) where
+  module _ (e : Effect F) (o : Outcome (State F)) (unchanged : closed-in h (o .notifications) ≡ false) where
     -- a sent write stays held
-    held-stays : (cfg : Configuration F) (k : ℕ) (b : List ℕ) → Matches L F h (mailbox-at (o .state .mailboxes) h) (object-in L F (o .ram) h) (account-after L F h cfg (held k b true) e o)
+    held-stays : (cfg : Configuration F) (k : ℕ) (b : List ℕ) → Matches (mailbox-at (o .state .core .mailboxes) h) (object-in (L .object-size) (o .ram) h) (account-after L F h cfg (held k b true) e o)
         → account-after L F h cfg (held k b true) e o ≡ held k b true
     held-stays cfg k b p = go (effect-of-held cfg k b e) (compared-held (o .ram) k b)
       where
@@ -105,7 +109,7 @@ module _ (L : Limits) (F : Format) (h : ℕ) where
         flat = unclosed h (o .notifications) (compared L F h (o .ram) (after-effect L F h cfg (held k b true) e)) unchanged
 
         breaks : account-after L F h cfg (held k b true) e o ≡ broken → account-after L F h cfg (held k b true) e o ≡ held k b true
-        breaks wrong = absurd (not-broken (mailbox-at (o .state .mailboxes) h) (object-in L F (o .ram) h) (account-after L F h cfg (held k b true) e o) p wrong)
+        breaks wrong = absurd (not-broken (mailbox-at (o .state .core .mailboxes) h) (object-in (L .object-size) (o .ram) h) (account-after L F h cfg (held k b true) e o) p wrong)
 
         go : (after-effect L F h cfg (held k b true) e ≡ held k b true) ⊎ (after-effect L F h cfg (held k b true) e ≡ broken)
             → (compared L F h (o .ram) (held k b true) ≡ held k b true) ⊎ (compared L F h (o .ram) (held k b true) ≡ broken)
@@ -120,18 +124,18 @@ module _ (L : Limits) (F : Format) (h : ℕ) where
     pub bytes : List ℕ
     pub is : a ≡ held handle bytes true
 
-  sent-holds : (cfg : Configuration F) (a : Account) (o : Outcome F) → closed-in h (o .notifications) ≡ false
-      → Matches L F h (mailbox-at (o .state .mailboxes) h) (object-in L F (o .ram) h) (account-after L F h cfg a (at-object h completed) o) → Held (account-after L F h cfg a (at-object h completed) o)
+  sent-holds : (cfg : Configuration F) (a : Account) (o : Outcome (State F)) → closed-in h (o .notifications) ≡ false
+      → Matches (mailbox-at (o .state .core .mailboxes) h) (object-in (L .object-size) (o .ram) h) (account-after L F h cfg a (at-object h completed) o) → Held (account-after L F h cfg a (at-object h completed) o)
   sent-holds cfg a o unchanged p = go a (flat ∙ ap (λ (t : Bool). compared L F h (o .ram) (cond t (after-sent a) a)) (eq-eqb h h refl)) p
     where
       flat : account-after L F h cfg a (at-object h completed) o ≡ compared L F h (o .ram) (cond (eqb h h) (after-sent a) a)
       flat = unclosed h (o .notifications) (compared L F h (o .ram) (cond (eqb h h) (after-sent a) a)) unchanged
 
-      fails : account-after L F h cfg a (at-object h completed) o ≡ broken → Matches L F h (mailbox-at (o .state .mailboxes) h) (object-in L F (o .ram) h) (account-after L F h cfg a (at-object h completed) o) → Held (account-after L F h cfg a (at-object h completed) o)
-      fails e q = absurd (not-broken (mailbox-at (o .state .mailboxes) h) (object-in L F (o .ram) h) (account-after L F h cfg a (at-object h completed) o) q e)
+      fails : account-after L F h cfg a (at-object h completed) o ≡ broken → Matches (mailbox-at (o .state .core .mailboxes) h) (object-in (L .object-size) (o .ram) h) (account-after L F h cfg a (at-object h completed) o) → Held (account-after L F h cfg a (at-object h completed) o)
+      fails e q = absurd (not-broken (mailbox-at (o .state .core .mailboxes) h) (object-in (L .object-size) (o .ram) h) (account-after L F h cfg a (at-object h completed) o) q e)
 
       go : (x : Account) → account-after L F h cfg a (at-object h completed) o ≡ compared L F h (o .ram) (after-sent x)
-          → Matches L F h (mailbox-at (o .state .mailboxes) h) (object-in L F (o .ram) h) (account-after L F h cfg a (at-object h completed) o) → Held (account-after L F h cfg a (at-object h completed) o)
+          → Matches (mailbox-at (o .state .core .mailboxes) h) (object-in (L .object-size) (o .ram) h) (account-after L F h cfg a (at-object h completed) o) → Held (account-after L F h cfg a (at-object h completed) o)
       go closed e q = fails e q
       go broken e q = fails e q
       go (held k b true) e q = fails e q
@@ -150,40 +154,30 @@ module _ (L : Limits) (F : Format) (h : ℕ) where
   account-append [] ys s ram cfg a = refl
   account-append (x ∷ xs) ys s ram cfg a = account-append xs ys (performed L F x s ram .state) (performed L F x s ram .ram) _ _
 
-  -- a call that puts no configuration in force, accepted or not
-  kept-force : (call : Call F) (o : Outcome F) (cfg : Configuration F) → in-force L F cfg (accepted-effect F call (o .answer)) ≡ cfg → in-force L F cfg (effect F call o) ≡ cfg
-  kept-force call o cfg e = either-effect F (λ (x : Effect F). in-force L F cfg x ≡ cfg) call o e refl
-
-  -- one that leaves nothing pending where it is accepted
-  cleared : (call : Call F) (s : State F) (ram : List ℕ) (cfg : Configuration F) (report : ℕ → List Notification) (answer : Answer) (r : ℕ) (accept : Outcome F) → mailbox-at (accept .state .mailboxes) h .tx-pending ≡ false
-      → mailbox-at (judged F r (rejected F report answer s ram) accept .state .mailboxes) h .tx-pending ≡ true → in-force L F cfg (effect F call (judged F r (rejected F report answer s ram) accept)) ≡ cfg
-  cleared call s ram cfg report answer r accept free =
-      judged-cases F (λ (o : Outcome F). mailbox-at (o .state .mailboxes) h .tx-pending ≡ true → in-force L F cfg (effect F call o) ≡ cfg) r (rejected F report answer s ram) accept
-      (λ e p. rw (rejected-code r e)) (λ e p. clash p free)
-
   -- a call that leaves a frame pending leaves the configuration
-  same-force : (call : Call F) (s : State F) (ram : List ℕ) (cfg : Configuration F) → mailbox-at (performed L F call s ram .state .mailboxes) h .tx-pending ≡ true
-      → in-force L F cfg (effect F call (performed L F call s ram)) ≡ cfg
-  unfolding performed init deinit
-  same-force (Init sheet bytes) s ram cfg pending =
-      cleared (Init sheet bytes) s ram cfg (service-report INIT) no-answer _ _ (ap (λ (m : Mailbox). m .tx-pending) (replicate-default (L .objects) h empty-mailbox)) pending
-  same-force (DeInit sheet) s ram cfg pending =
-      cleared (DeInit sheet) s ram cfg (service-report DEINIT) no-answer _ _ (ap (λ (m : Mailbox). m .tx-pending) (replicate-default (L .objects) h empty-mailbox)) pending
-  same-force (SetControllerMode sheet c asked) s ram cfg pending = kept-force (SetControllerMode sheet c asked) (performed L F (SetControllerMode sheet c asked) s ram) cfg refl
-  same-force (GetControllerMode sheet c) s ram cfg pending = kept-force (GetControllerMode sheet c) (performed L F (GetControllerMode sheet c) s ram) cfg refl
-  same-force (Write sheet i handle fits frame) s ram cfg pending =
-      kept-force (Write sheet i handle fits frame) (performed L F (Write sheet i handle fits frame) s ram) cfg (either-object F (λ (x : Effect F). in-force L F cfg x ≡ cfg) (performed L F (Write sheet i handle fits frame) s ram .answer) (written handle frame) (λ j. refl) refl)
-  same-force (MainFunctionWrite sheet) s ram cfg pending = kept-force (MainFunctionWrite sheet) (performed L F (MainFunctionWrite sheet) s ram) cfg refl
-  same-force (MainFunctionRead sheet) s ram cfg pending = kept-force (MainFunctionRead sheet) (performed L F (MainFunctionRead sheet) s ram) cfg refl
-  same-force (MainFunctionMode sheet) s ram cfg pending = kept-force (MainFunctionMode sheet) (performed L F (MainFunctionMode sheet) s ram) cfg refl
-  same-force (MainFunctionBusOff sheet) s ram cfg pending = kept-force (MainFunctionBusOff sheet) (performed L F (MainFunctionBusOff sheet) s ram) cfg refl
-  same-force (TxComplete i) s ram cfg pending = kept-force (TxComplete i) (performed L F (TxComplete i) s ram) cfg refl
-  same-force (BusOffDetected c) s ram cfg pending = kept-force (BusOffDetected c) (performed L F (BusOffDetected c) s ram) cfg refl
-  same-force (FrameArrived sheet c frame) s ram cfg pending = kept-force (FrameArrived sheet c frame) (performed L F (FrameArrived sheet c frame) s ram) cfg refl
+  abbrev KeepsForce : Configuration F → Effect F → Outcome (State F) → Type 0
+  KeepsForce cfg e o = mailbox-at (o .state .core .mailboxes) h .tx-pending ≡ true → in-force L F cfg e ≡ cfg
+
+  done-keeps-force : (call : Call F) (s : State F) (ram : List ℕ) (cfg : Configuration F) → KeepsForce cfg (accepted-effect F call (judgement L F call s ram .done .answer)) (judgement L F call s ram .done)
+  done-keeps-force (Init sheet bytes) s ram cfg pending = clash pending (ap (λ (m : Mailbox). m .tx-pending) (replicate-default (L .objects) h empty-mailbox))
+  done-keeps-force (DeInit sheet) s ram cfg pending = clash pending (ap (λ (m : Mailbox). m .tx-pending) (replicate-default (L .objects) h empty-mailbox))
+  done-keeps-force (SetControllerMode sheet c asked) s ram cfg pending = refl
+  done-keeps-force (GetControllerMode sheet c) s ram cfg pending = refl
+  done-keeps-force (Write sheet i handle fits frame) s ram cfg pending = refl
+  done-keeps-force (MainFunctionWrite sheet) s ram cfg pending = refl
+  done-keeps-force (MainFunctionRead sheet) s ram cfg pending = refl
+  done-keeps-force (MainFunctionMode sheet) s ram cfg pending = refl
+  done-keeps-force (MainFunctionBusOff sheet) s ram cfg pending = refl
+  done-keeps-force (TxComplete i) s ram cfg pending = refl
+  done-keeps-force (BusOffDetected c) s ram cfg pending = refl
+  done-keeps-force (FrameArrived sheet c frame) s ram cfg pending = refl
+
+  same-force : (call : Call F) (s : State F) (ram : List ℕ) (cfg : Configuration F) → KeepsForce cfg (effect F call (performed L F call s ram)) (performed L F call s ram)
+  same-force call s ram cfg = performed-cases L F (KeepsForce cfg) call s ram (λ refused pending. refl) (λ r. done-keeps-force call s ram cfg)
 
   -- calls that are none of the three keep a sent write held; c is the object's controller, and r its entry in the reference modes
   held-list : Lawful L F → (calls : List (Call F)) (s : State F) (ram : List ℕ) (cfg : Configuration F) (k : ℕ) (b : List ℕ) (c : ℕ) (r : Reference)
-      → Follows L F h s ram cfg (held k b true) → object-at L F cfg h .controller ≡ c → r ≡ entry (controller-at (s .controllers) c) → NoneCame L F c r (trace L F calls s ram)
+      → Follows L F h s ram cfg (held k b true) → owner-at (cfg .owners) h .controller ≡ c → r ≡ entry (controller-at (s .core .controllers) c) → NoneCame L F c r (trace L F calls s ram)
       → account L F h cfg (held k b true) (trace L F calls s ram) ≡ held k b true
   unfolding trace account
   held-list lawful [] s ram cfg k b c r f own e none-came = refl
@@ -191,54 +185,32 @@ module _ (L : Limits) (F : Format) (h : ℕ) where
       let o = performed L F call s ram in
       let next = follows-on L F h lawful call s ram cfg (held k b true) f in
       let here = subst (λ (x : Reference). NoneCame L F c x (trace L F (call ∷ calls) s ram)) e none-came in
-      let quiet = performed-quiet L F h call s ram c (ap (λ (x : Configuration F). object-at L F x h .controller) (sym (f .force)) ∙ own) (here .0) in
+      let quiet = performed-quiet L F h s ram c (ap (λ (x : Configuration F). owner-at (x .owners) h .controller) (sym (f .force)) ∙ own) call (here .0) in
       let same = held-stays (effect F call o) o quiet cfg k b (next .matches) in
       let next-held : Follows L F h (o .state) (o .ram) (in-force L F cfg (effect F call o)) (held k b true) = subst (λ (x : Account). Follows L F h (o .state) (o .ram) (in-force L F cfg (effect F call o)) x) same next in
-      let still = ap (λ (x : Configuration F). object-at L F x h .controller) (same-force call s ram cfg (next-held .matches .0)) ∙ own in
+      let still = ap (λ (x : Configuration F). owner-at (x .owners) h .controller) (same-force call s ram cfg (next-held .matches .0)) ∙ own in
       ap (λ (x : Account). account L F h (in-force L F cfg (effect F call o)) x (trace L F calls (o .state) (o .ram))) same
-      ∙ held-list lawful calls (o .state) (o .ram) (in-force L F cfg (effect F call o)) k b c (reference-after L F c (entry (controller-at (s .controllers) c)) (effect F call o))
-      next-held still (performed-follows L F c call s ram (valid-facts L F s (f .sound))) (here .1)
-
-  -- a write poll confirms every sent object
-  confirms : (ram : List ℕ) (n : ℕ) (b : Boxes) → h < n → mailbox-at (b .mailboxes) h .tx-done ≡ true → Reported (tx-confirmation h (handle-in (object-in L F ram h))) (rising n (confirm-one L F ram) b .notifications)
-  unfolding rising
-  confirms ram zero b l done = absurd (omega arith)
-  confirms ram (suc n) b l done = ⊎-elim here (λ (k : h < n). later (confirms ram n b k done)) (last-or-below n h l)
-    where
-      here : h ≡ n → Reported (tx-confirmation h (handle-in (object-in L F ram h))) (confirm-one L F ram n (rising n (confirm-one L F ram) b) .notifications)
-      here e =
-          let untouched = boxes-above (λ i m. m .tx-done) (confirm-one L F ram) (confirm-step L F ram) b h h (omega arith) in
-          subst (λ (i : ℕ). Reported (tx-confirmation h (handle-in (object-in L F ram h))) (confirm-one L F ram i (rising i (confirm-one L F ram) b) .notifications)) e
-          (rw (ap (λ (m : Mailbox). m .tx-done) untouched ∙ done) (reported-last (tx-confirmation h (handle-in (object-in L F ram h))) (rising h (confirm-one L F ram) b .notifications)))
-
-      later : Reported (tx-confirmation h (handle-in (object-in L F ram h))) (rising n (confirm-one L F ram) b .notifications)
-          → Reported (tx-confirmation h (handle-in (object-in L F ram h))) (confirm-one L F ram n (rising n (confirm-one L F ram) b) .notifications)
-      later r =
-          let w = rising n (confirm-one L F ram) b in
-          cond-both (λ (x : Boxes). Reported (tx-confirmation h (handle-in (object-in L F ram h))) (x .notifications)) (mailbox-at (w .mailboxes) n .tx-done) (close L F by-sent ram n w) w
-          (λ t. reported-front _ (w .notifications) _ r)
-          (λ t. r)
+      ∙ held-list lawful calls (o .state) (o .ram) (in-force L F cfg (effect F call o)) k b c (reference-after L F c (entry (controller-at (s .core .controllers) c)) (effect F call o))
+      next-held still (performed-follows L F c call s ram (f .sound)) (here .1)
 
   -- an accepted write poll reports an object whose write is held and sent
   poll-reports : (s : State F) (ram : List ℕ) (cfg : Configuration F) (k : ℕ) (b sheet : List ℕ) → Follows L F h s ram cfg (held k b true) → is-accepted (performed L F (MainFunctionWrite sheet) s ram) ≡ true
       → Reported (tx-confirmation h k) (performed L F (MainFunctionWrite sheet) s ram .notifications)
-  unfolding performed main-function-write confirmed
-  poll-reports s ram cfg k b sheet f ok =
-      let reason = first-reason (full-gate L F s (length sheet) ram) in
-      judged-cases F (λ (o : Outcome F). is-accepted o ≡ true → Reported (tx-confirmation h k) (o .notifications)) reason _ _
-      (λ refused accepted. clash accepted (rejected-code reason refused))
-      (λ r accepted. subst (λ (x : ℕ). Reported (tx-confirmation h x) (rising (s .configuration .object-count) (confirm-one L F ram) (boxes-of L F s) .notifications)) own-handle (confirms ram (s .configuration .object-count) (boxes-of L F s) in-use (f .matches .1)))
-      ok
+  poll-reports s ram cfg k b sheet f =
+      performed-cases L F (λ e o. is-accepted o ≡ true → Reported (tx-confirmation h k) (o .notifications)) (MainFunctionWrite sheet) s ram
+      (λ refused accepted. clash accepted (rejected-code (judgement L F (MainFunctionWrite sheet) s ram .reason) refused))
+      (λ r accepted. subst (λ (x : ℕ). Reported (tx-confirmation h x) (judgement L F (MainFunctionWrite sheet) s ram .done .notifications)) own-handle
+      (told-of h (confirmation (L .object-size) ram) (boxes-of (s .core)) (f .matches .1) (s .core .object-count) in-use))
     where
-      own-handle : handle-in (object-in L F ram h) ≡ k
+      own-handle : handle-in (object-in (L .object-size) ram h) ≡ k
       own-handle = ap handle-in (f .matches .2) ∙ f .matches .3
 
-      in-use : h < s .configuration .object-count
-      in-use = go (decLt h (s .configuration .object-count))
+      in-use : h < s .core .object-count
+      in-use = go (decLt h (s .core .object-count))
         where
-          go : Dec (h < s .configuration .object-count) → h < s .configuration .object-count
+          go : Dec (h < s .core .object-count) → h < s .core .object-count
           go (yes l) = l
-          go (no l) = clash (f .matches .0) (ap (λ (m : Mailbox). m .tx-pending) (unused-empty L F s (valid-facts L F s (f .sound)) h (omega arith)))
+          go (no l) = clash (f .matches .0) (ap (λ (m : Mailbox). m .tx-pending) (unused-empty L (s .core) (core-facts L (s .core) (state-core L F s (f .sound))) h (omega arith)))
 
   -- from the state in which the frame is sent: the write stays open until the poll, which reports it
   pub record ReportedAt (cfg : Configuration F) (a : Account) (s : State F) (ram : List ℕ) (between : List (Call F)) (sheet : List ℕ) : Type 0 where
@@ -251,21 +223,21 @@ module _ (L : Limits) (F : Format) (h : ℕ) where
 
   sent-reported : Lawful L F → (s : State F) (ram : List ℕ) (cfg : Configuration F) (a : Account) (between : List (Call F)) (sheet : List ℕ) → Follows L F h s ram cfg a
       → is-accepted (performed L F (TxComplete h) s ram) ≡ true
-      → NoneCame L F (object-at L F cfg h .controller) (entry (controller-at (s .controllers) (object-at L F cfg h .controller))) (trace L F (TxComplete h ∷ between) s ram)
+      → NoneCame L F (owner-at (cfg .owners) h .controller) (entry (controller-at (s .core .controllers) (owner-at (cfg .owners) h .controller))) (trace L F (TxComplete h ∷ between) s ram)
       → is-accepted (performed L F (MainFunctionWrite sheet) (left-by L F (TxComplete h ∷ between) s ram .state) (left-by L F (TxComplete h ∷ between) s ram .ram)) ≡ true
       → ReportedAt cfg a s ram between sheet
   unfolding left-by trace account
   sent-reported lawful s ram cfg a between sheet start sent none-came polled =
-      let c = object-at L F cfg h .controller in
+      let c = owner-at (cfg .owners) h .controller in
       let o = performed L F (TxComplete h) s ram in
       let next = follows-on L F h lawful (TxComplete h) s ram cfg a start in
-      let quiet = performed-quiet L F h (TxComplete h) s ram c (ap (λ (x : Configuration F). object-at L F x h .controller) (sym (start .force))) (none-came .0) in
+      let quiet = performed-quiet L F h s ram c (ap (λ (x : Configuration F). owner-at (x .owners) h .controller) (sym (start .force))) (TxComplete h) (none-came .0) in
       let is-sent : effect F (TxComplete h) o ≡ at-object h completed = rw sent in
       let at-once : Follows L F h (o .state) (o .ram) cfg (account-after L F h cfg a (at-object h completed) o) = subst (λ (e : Effect F). Follows L F h (o .state) (o .ram) (in-force L F cfg e) (account-after L F h cfg a e o)) is-sent next in
       let now = sent-holds cfg a o quiet (at-once .matches) in
       let f : Follows L F h (o .state) (o .ram) cfg (held (now .handle) (now .bytes) true) = subst (λ (x : Account). Follows L F h (o .state) (o .ram) cfg x) (now .is) at-once in
-      let stays = held-list lawful between (o .state) (o .ram) cfg (now .handle) (now .bytes) c (reference-after L F c (entry (controller-at (s .controllers) c)) (effect F (TxComplete h) o)) f refl
-      (performed-follows L F c (TxComplete h) s ram (valid-facts L F s (start .sound))) (none-came .1) in
+      let stays = held-list lawful between (o .state) (o .ram) cfg (now .handle) (now .bytes) c (reference-after L F c (entry (controller-at (s .core .controllers) c)) (effect F (TxComplete h) o)) f refl
+      (performed-follows L F c (TxComplete h) s ram (start .sound)) (none-came .1) in
       let last = follows-list lawful between (o .state) (o .ram) cfg (held (now .handle) (now .bytes) true) f in
       let at-poll = left-by L F between (o .state) (o .ram) in
       let g : Follows L F h (at-poll .state) (at-poll .ram) (force-by L F cfg (trace L F between (o .state) (o .ram))) (held (now .handle) (now .bytes) true) =

@@ -7,7 +7,8 @@ use native.Mathlib.Omega.{arith}
 use Rattle.rules.specs.Limits.{Limits, notification-limit}
 use Rattle.rules.specs.Format.{Format, Lawful}
 use Rattle.rules.specs.Configuration.{no-configuration}
-use Rattle.rules.specs.State.{State, valid, initial-state, idle-controller}
+use Rattle.rules.specs.Core.{idle-controller}
+use Rattle.rules.specs.State.{State, valid, initial-state}
 use Rattle.history.specs.Call.{Call, performed}
 use Rattle.history.specs.Trace.{trace}
 use Rattle.history.specs.Account.{closed}
@@ -24,7 +25,7 @@ notifications-bounded : (L : Limits) (F : Format) → Lawful L F → 0 < notific
 unfolding trace
 notifications-bounded L F lawful above [] s ram v = tt
 notifications-bounded L F lawful above (call ∷ calls) s ram v = (
-  performed-bounded L F above call s ram v,
+  performed-bounded L F above s ram v call,
   notifications-bounded L F lawful above calls (performed L F call s ram .state) (performed L F call s ram .ram) (performed-valid L F lawful call s ram v),
 )
 

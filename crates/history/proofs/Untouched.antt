@@ -1,39 +1,16 @@
 -- The sweeps of the polls leave an object untouched that they do not close: its mailbox, and no closing notice names it.
-use Prim.Native.Nat.{ℕ, zero, suc}
-use mathlib.Core.Path.{_≡_, refl, ap, sym, _∙_, subst}
-use mathlib.Core.Bool.{Bool, true, false, cond, _&&_}
-use mathlib.Core.List.{List, [], _∷_, _++_}
-use native.Mathlib.Nat.{le-refl}
-use lib.ListN.{set}
+use Prim.Native.Nat.{ℕ}
+use mathlib.Core.Path.{_≡_, refl, sym, _∙_, subst}
+use mathlib.Core.Bool.{true, false, _&&_}
+use mathlib.Core.List.{List}
 use lib.Seq.{getD-set-other}
 use lib.Dec.{eqb}
-use borrow.Author.Tests.{eqb-true, ne-eqb}
-use Rattle.rules.specs.Limits.{Limits}
-use Rattle.rules.specs.Format.{Format}
-use Rattle.rules.specs.Head.{handle-in}
-use Rattle.rules.specs.Repeat.{rising}
-use Rattle.rules.specs.Notification.{Notification, mode-indication, bus-off-indication}
-use Rattle.rules.specs.Configuration.{Configuration, object-at}
-use Rattle.rules.specs.State.{Controller, Mailbox, State, idle-controller, empty-mailbox, controller-at, mailbox-at}
-use Rattle.rules.specs.Polls.{Boxes, Sweep, Closing, closing-notification, object-in, boxes-of, by-sent, by-stop, notify, close, confirm-one, cancel-one, cancel-all, change-mode, mode-one, go-bus-off, bus-off-one, takes-request, leaves-started, entering-request, entering-bus-off}
+use borrow.Author.Tests.{ne-eqb}
+use Rattle.rules.specs.Core.{Controller, Mailbox, Core, empty-mailbox, controller-at, owner-at, mailbox-at}
+use Rattle.rules.specs.Polls.{Boxes, Visit, Turn, visit-all, turn-all, boxes-of, cancellation}
 use Rattle.history.specs.Operators.{closes, closed-in}
-use Rattle.history.specs.Reference.{entry, stops}
-use Rattle.laws.proofs.Tests.{both, left, right, clash, cond-both, neither}
-use Rattle.laws.proofs.Repeat.{rising-keeps}
-use Rattle.laws.proofs.Sweeps.{sweep-above}
-use Rattle.history.proofs.Modes.{mode-visit, bus-off-visit}
-
--- one notification more, which does not close the object
-pub still-open : (h : ℕ) (ns : List Notification) (n : Notification) → closed-in h ns ≡ false → closes h n ≡ false → closed-in h (ns ++ (n ∷ [])) ≡ false
-unfolding closed-in
-still-open h [] n e f = rw f
-still-open h (m ∷ ns) n e f =
-    let none-closed = neither (closes h m) (closed-in h ns) e in
-    rw (none-closed .0) (still-open h ns n (none-closed .1) f)
-
--- a mode poll takes the controller out of STARTED
-abbrev pub stopping : Controller → Bool
-stopping k = stops (entry k)
+use Rattle.history.proofs.Notices.{still-open}
+use Rattle.history.proofs.Sweeps.{freed, visits-keep, turns-keep}
 
 -- object h still has the mailbox m
 pub record Untouched (h : ℕ) (m : Mailbox) (b : Boxes) : Type 0 where
@@ -41,82 +18,30 @@ pub record Untouched (h : ℕ) (m : Mailbox) (b : Boxes) : Type 0 where
   pub unclosed : closed-in h (b .notifications) ≡ false
 
 -- where a sweep begins
-pub at-first : (L : Limits) (F : Format) (s : State F) (h : ℕ) → Untouched h (mailbox-at (s .mailboxes) h) (boxes-of L F s)
+pub at-first : (core : Core) (h : ℕ) → Untouched h (mailbox-at (core .mailboxes) h) (boxes-of core)
 unfolding closed-in
-at-first L F s h = record { same = refl; unclosed = refl }
+at-first core h = record { same = refl; unclosed = refl }
 
-module _ (L : Limits) (F : Format) (ram : List ℕ) (h : ℕ) (m : Mailbox) where
-  told : (n : Notification) (b : Boxes) → closes h n ≡ false → Untouched h m b → Untouched h m (notify n b)
-  told n b quiet u = record { same = u .same; unclosed = still-open h (b .notifications) n (u .unclosed) quiet }
-
-  other-closed : (why : Closing) (i : ℕ) (b : Boxes) → (i ≡ h → ⊥) → Untouched h m b → Untouched h m (close L F why ram i b)
-  other-closed why i b apart u =
-      record {
-        same = getD-set-other (b .mailboxes) i h empty-mailbox empty-mailbox (λ e. apart (sym e)) ∙ u .same;
-        unclosed = still-open h (b .notifications) _ (u .unclosed) (not-named why);
-      }
+module _ (h : ℕ) (m : Mailbox) where
+  -- a sweep over the objects at which object h is not due, and that names another object where that is
+  pub visits-untouched : (v : Visit) → (v .due h m ≡ true → ⊥) → ((i : ℕ) (x : Mailbox) → (i ≡ h → ⊥) → closes h (v .note i x) ≡ false)
+      → (n : ℕ) (b : Boxes) → Untouched h m b → Untouched h m (visit-all v n b)
+  visits-untouched v spared others = visits-keep (Untouched h m) v one
     where
-      not-named : (w : Closing) → closes h (closing-notification w (mailbox-at (b .mailboxes) i) i (handle-in (object-in L F ram i))) ≡ false
-      not-named by-sent = ne-eqb i h apart
-      not-named by-stop = ne-eqb i h apart
+      one : (i : ℕ) (b : Boxes) → Untouched h m b → v .due i (mailbox-at (b .mailboxes) i) ≡ true → Untouched h m (freed v i b)
+      one i b u due =
+          let apart : i ≡ h → ⊥ = λ e. spared (subst (λ (x : Mailbox). v .due h x ≡ true) (u .same) (subst (λ (j : ℕ). v .due j (mailbox-at (b .mailboxes) j) ≡ true) e due)) in
+          record {
+            same = getD-set-other (b .mailboxes) i h empty-mailbox empty-mailbox (λ e. apart (sym e)) ∙ u .same;
+            unclosed = still-open h (b .notifications) _ (u .unclosed) (others i (mailbox-at (b .mailboxes) i) apart);
+          }
 
-  -- a write poll that has nothing to confirm for the object
-  pub confirmed-untouched : m .tx-done ≡ false → (n : ℕ) (b : Boxes) → Untouched h m b → Untouched h m (rising n (confirm-one L F ram) b)
-  confirmed-untouched unsent n =
-      rising-keeps (Untouched h m) (confirm-one L F ram) n
-      (λ i l b u. cond-both (Untouched h m) (mailbox-at (b .mailboxes) i .tx-done) (close L F by-sent ram i b) b (λ t. other-closed by-sent i b (λ e. clash (own i b e u ∙ t) unsent) u) (λ t. u))
-    where
-      own : (i : ℕ) (b : Boxes) → i ≡ h → Untouched h m b → m .tx-done ≡ mailbox-at (b .mailboxes) i .tx-done
-      own i b e u = ap (λ (x : Mailbox). x .tx-done) (sym (u .same)) ∙ ap (λ (j : ℕ). mailbox-at (b .mailboxes) j .tx-done) (sym e)
-
-  module _ (cfg : Configuration F) where
-    -- the objects of controller k are closed, where the object is not pending or belongs to another one
-    cancelled-untouched : (k : ℕ) → (object-at L F cfg h .controller ≡ k → m .tx-pending ≡ true → ⊥) → (b : Boxes) → Untouched h m b → Untouched h m (cancel-all L F cfg ram k b)
-    unfolding cancel-all
-    cancelled-untouched k spared =
-        rising-keeps (Untouched h m) (cancel-one L F cfg ram k) (cfg .object-count)
-        (λ i l b u. let belongs = eqb (object-at L F cfg i .controller) k in
-        let pending = mailbox-at (b .mailboxes) i .tx-pending in
-        cond-both (Untouched h m) (belongs && pending) (close L F by-stop ram i b) b
-        (λ t. other-closed by-stop i b
-        (λ e. spared (ap (λ (j : ℕ). object-at L F cfg j .controller) (sym e) ∙ eqb-true (object-at L F cfg i .controller) k (left belongs pending t))
-        (ap (λ (x : Mailbox). x .tx-pending) (sym (u .same)) ∙ ap (λ (j : ℕ). mailbox-at (b .mailboxes) j .tx-pending) (sym e) ∙ right belongs pending t)) u)
-        (λ t. u))
-
-    -- the object is spared when its controller, being k, leaves: it is not pending, or its controller does not leave
-    abbrev Spared : Bool → ℕ → Type 0
-    Spared leaves k = leaves ≡ true → object-at L F cfg h .controller ≡ k → m .tx-pending ≡ true → ⊥
-
-    mode-turn : (i : ℕ) (w : Sweep) → Spared (stopping (controller-at (w .controllers) i)) i → Untouched h m (w .boxes) → Untouched h m (mode-one L F cfg ram i w .boxes)
-    mode-turn i w spared u =
-        let k = controller-at (w .controllers) i in
-        cond-both (λ (x : Sweep). Untouched h m (x .boxes)) (takes-request k) (change-mode L F cfg ram i k w) w
-        (λ t. told (mode-indication i (k .requested-mode)) _ refl
-        (cond-both (Untouched h m) (leaves-started k) (cancel-all L F cfg ram i (w .boxes)) (w .boxes) (λ g. cancelled-untouched i (spared (both t g)) (w .boxes) u) (λ g. u)))
-        (λ t. u)
-
-    bus-off-turn : (i : ℕ) (w : Sweep) → Spared (controller-at (w .controllers) i .bus-off) i → Untouched h m (w .boxes) → Untouched h m (bus-off-one L F cfg ram i w .boxes)
-    bus-off-turn i w spared u =
-        let k = controller-at (w .controllers) i in
-        cond-both (λ (x : Sweep). Untouched h m (x .boxes)) (k .bus-off) (go-bus-off L F cfg ram i w) w
-        (λ t. told (bus-off-indication i) _ refl (cancelled-untouched i (spared t) (w .boxes) u))
-        (λ t. u)
-
-    -- a sweep over the controllers meets each one as it was at first
-    module _ (test leaves : Controller → Bool) (change : Controller → Controller) (f : ℕ → Sweep → Sweep)
-        (visit : (i : ℕ) (w : Sweep) → f i w .controllers ≡ cond (test (controller-at (w .controllers) i)) (set (w .controllers) i (change (controller-at (w .controllers) i))) (w .controllers))
-        (turn : (i : ℕ) (w : Sweep) → Spared (leaves (controller-at (w .controllers) i)) i → Untouched h m (w .boxes) → Untouched h m (f i w .boxes))
-        (w : Sweep) (spared : (i : ℕ) → Spared (leaves (controller-at (w .controllers) i)) i) (u : Untouched h m (w .boxes)) where
-      sweep-untouched : (n : ℕ) → Untouched h m (rising n f w .boxes)
-      unfolding rising
-      sweep-untouched zero = u
-      sweep-untouched (suc n) = turn n (rising n f w) (subst (λ (k : Controller). Spared (leaves k) n) (sym met) (spared n)) (sweep-untouched n)
-        where
-          met : controller-at (rising n f w .controllers) n ≡ controller-at (w .controllers) n
-          met = sweep-above Sweep Controller (λ (x : Sweep). x .controllers) idle-controller (λ i. test) change f visit w n n (le-refl n)
-
-    pub modes-untouched : (w : Sweep) → ((i : ℕ) → Spared (stopping (controller-at (w .controllers) i)) i) → Untouched h m (w .boxes) → (n : ℕ) → Untouched h m (rising n (mode-one L F cfg ram) w .boxes)
-    modes-untouched w spared u n = sweep-untouched takes-request stopping entering-request (mode-one L F cfg ram) (mode-visit L F 0 cfg ram) mode-turn w spared u n
-
-    pub buses-off-untouched : (w : Sweep) → ((i : ℕ) → Spared (controller-at (w .controllers) i .bus-off) i) → Untouched h m (w .boxes) → (n : ℕ) → Untouched h m (rising n (bus-off-one L F cfg ram) w .boxes)
-    buses-off-untouched w spared u n = sweep-untouched (λ k. k .bus-off) (λ k. k .bus-off) entering-bus-off (bus-off-one L F cfg ram) (bus-off-visit L F 0 cfg ram) bus-off-turn w spared u n
+  -- a sweep over the controllers, if the object is not pending or its controller does not leave the bus
+  pub turns-untouched : (size : ℕ) (t : Turn) (core : Core) (ram : List ℕ) → ((c : ℕ) (k : Controller) → closes h (t .note c k) ≡ false)
+      → ((c : ℕ) → t .due (controller-at (core .controllers) c) ≡ true → t .leaves (controller-at (core .controllers) c) ≡ true
+      → (eqb (owner-at (core .owners) h .controller) c && m .tx-pending) ≡ true → ⊥)
+      → Untouched h m (boxes-of core) → Untouched h m (turn-all size t core ram .boxes)
+  turns-untouched size t core ram quiet spared =
+      turns-keep size t core ram (Untouched h m)
+      (λ c k b u. record { same = u .same; unclosed = still-open h (b .notifications) (t .note c k) (u .unclosed) (quiet c k) })
+      (λ c due leaves. visits-untouched (cancellation size (core .owners) ram c) (spared c due leaves) (λ i x d. ne-eqb i h d) (core .object-count))

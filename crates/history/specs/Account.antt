@@ -8,7 +8,8 @@ use Rattle.rules.specs.Limits.{Limits}
 use Rattle.rules.specs.Format.{Format}
 use Rattle.rules.specs.Bytes.{same-bytes}
 use Rattle.rules.specs.Notification.{Notification, tx-confirmation, rx-indication, mode-indication, bus-off-indication, development-error, data-lost, tx-cancellation}
-use Rattle.rules.specs.Configuration.{Configuration, object-at, configuration-of, no-configuration}
+use Rattle.rules.specs.Configuration.{Configuration, settings-at, configuration-of, no-configuration}
+use Rattle.rules.specs.State.{State}
 use Rattle.rules.specs.Outcome.{Outcome}
 use Rattle.rules.specs.Polls.{object-in}
 use Rattle.history.specs.Trace.{Step}
@@ -79,7 +80,7 @@ module _ (L : Limits) (F : Format) where
 
   -- accepted writes to object h, and accepted sent events for it
   abbrev pub after-own : ℕ → Configuration F → Account → AtObject F → Account
-  after-own h cfg a (written handle frame) = after-write handle (F .object-bytes (object-at L F cfg h .settings) handle frame) a
+  after-own h cfg a (written handle frame) = after-write handle (F .object-bytes (settings-at F (cfg .settings) h) handle frame) a
   after-own h cfg a completed = after-sent a
 
   abbrev pub after-effect : ℕ → Configuration F → Account → Effect F → Account
@@ -92,11 +93,11 @@ module _ (L : Limits) (F : Format) where
   -- "The 72 bytes are compared at the end of every call from the write to the one that closes it"
   abbrev pub compared : ℕ → List ℕ → Account → Account
   compared h ram closed = closed
-  compared h ram (held k b sent) = cond (same-bytes (object-in L F ram h) b) (held k b sent) broken
+  compared h ram (held k b sent) = cond (same-bytes (object-in (L .object-size) ram h) b) (held k b sent) broken
   compared h ram broken = broken
 
   -- one call: the write or sent event that it is, then its memory, then its notices
-  abbrev pub account-after : ℕ → Configuration F → Account → Effect F → Outcome F → Account
+  abbrev pub account-after : ℕ → Configuration F → Account → Effect F → Outcome (State F) → Account
   account-after h cfg a e o = after-notifications h (compared h (o .ram) (after-effect h cfg a e)) (o .notifications)
 
   unfoldable pub account : ℕ → Configuration F → Account → List (Step F) → Account

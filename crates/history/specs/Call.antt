@@ -6,9 +6,7 @@ use Rattle.rules.specs.Limits.{Limits}
 use Rattle.rules.specs.Format.{Format}
 use Rattle.rules.specs.State.{State}
 use Rattle.rules.specs.Outcome.{Outcome}
-use Rattle.rules.specs.Services as services
-use Rattle.rules.specs.Polls as polls
-use Rattle.rules.specs.Events as events
+use Rattle.rules.specs.Calls as calls
 
 -- "Each call brings its own inputs and, where it takes one, its own sheet, of any length and content". The sheet comes first.
 pub data Call (F : Format) : Type 0 where
@@ -34,16 +32,16 @@ pub data Call (F : Format) : Type 0 where
 
 module _ (L : Limits) (F : Format) where
   -- what the call leaves of this state and this memory
-  unfoldable pub performed : Call F → State F → List ℕ → Outcome F
-  performed (Init sheet bytes) s ram = services.init L F s (length sheet) ram bytes
-  performed (DeInit sheet) s ram = services.deinit L F s (length sheet) ram
-  performed (SetControllerMode sheet c asked) s ram = services.set-controller-mode L F s (length sheet) ram c asked
-  performed (GetControllerMode sheet c) s ram = services.get-controller-mode L F s (length sheet) ram c
-  performed (Write sheet h handle fits frame) s ram = services.write L F s (length sheet) ram h handle frame
-  performed (MainFunctionWrite sheet) s ram = polls.main-function-write L F s (length sheet) ram
-  performed (MainFunctionRead sheet) s ram = polls.main-function-read L F s (length sheet) ram
-  performed (MainFunctionMode sheet) s ram = polls.main-function-mode L F s (length sheet) ram
-  performed (MainFunctionBusOff sheet) s ram = polls.main-function-bus-off L F s (length sheet) ram
-  performed (TxComplete h) s ram = events.tx-complete L F s ram h
-  performed (BusOffDetected c) s ram = events.bus-off-detected L F s ram c
-  performed (FrameArrived sheet c frame) s ram = events.frame-arrived L F s (length sheet) ram c frame
+  unfoldable pub performed : Call F → State F → List ℕ → Outcome (State F)
+  performed (Init sheet bytes) s ram = calls.init L F s (length sheet) ram bytes
+  performed (DeInit sheet) s ram = calls.deinit L F s (length sheet) ram
+  performed (SetControllerMode sheet c asked) s ram = calls.set-controller-mode L F s (length sheet) ram c asked
+  performed (GetControllerMode sheet c) s ram = calls.get-controller-mode L F s (length sheet) ram c
+  performed (Write sheet h handle fits frame) s ram = calls.write L F s (length sheet) ram h handle frame
+  performed (MainFunctionWrite sheet) s ram = calls.main-function-write L F s (length sheet) ram
+  performed (MainFunctionRead sheet) s ram = calls.main-function-read L F s (length sheet) ram
+  performed (MainFunctionMode sheet) s ram = calls.main-function-mode L F s (length sheet) ram
+  performed (MainFunctionBusOff sheet) s ram = calls.main-function-bus-off L F s (length sheet) ram
+  performed (TxComplete h) s ram = calls.tx-complete L F s ram h
+  performed (BusOffDetected c) s ram = calls.bus-off-detected L F s ram c
+  performed (FrameArrived sheet c frame) s ram = calls.frame-arrived L F s (length sheet) ram c frame

@@ -9,7 +9,8 @@ use Rattle.rules.specs.Limits.{Limits, notification-limit}
 use Rattle.rules.specs.Format.{Format}
 use Rattle.rules.specs.Mode.{permitted}
 use Rattle.rules.specs.Configuration.{no-configuration}
-use Rattle.rules.specs.State.{controller-at, initial-state}
+use Rattle.rules.specs.Core.{controller-at}
+use Rattle.rules.specs.State.{State, initial-state}
 use Rattle.rules.specs.Outcome.{Outcome, mode}
 use Rattle.history.specs.Call.{Call}
 use Rattle.history.specs.Trace.{Step, trace, left-by}
@@ -45,9 +46,9 @@ module _ (L : Limits) (F : Format) where
   is-mode-poll (at-controller c x) = false
 
   -- one call against the reference modes of controller c, before it (r) and after it (next)
-  pub record ModeKept (c : ℕ) (r next : Reference) (e : Effect F) (o : Outcome F) : Type 0 where
+  pub record ModeKept (c : ℕ) (r next : Reference) (e : Effect F) (o : Outcome (State F)) : Type 0 where
     -- "The modes in the driver state .. equal the book's."
-    pub in-state : controller-at (o .state .controllers) c .mode ≡ next .mode
+    pub in-state : controller-at (o .state .core .controllers) c .mode ≡ next .mode
     -- ".. and GetControllerMode's answer where it returns 0"
     pub answered : asks-mode c e ≡ true → o .answer ≡ mode (next .mode)
     -- "Each wish that a mode poll takes is a request permitted from the mode that it replaces."
@@ -84,4 +85,4 @@ module _ (L : Limits) (F : Format) where
   -- the whole entry of the book, and not its mode alone: after any list of calls a controller's mode, waiting request and mark are the
   -- mode, the wish and the mark of its entry
   abbrev pub ReferenceRule : Type 0
-  ReferenceRule = (c : ℕ) (calls : List (Call F)) (ram : List ℕ) → entry (controller-at (left-by L F calls (initial-state L F) ram .state .controllers) c) ≡ reference-by L F c at-first (history calls ram)
+  ReferenceRule = (c : ℕ) (calls : List (Call F)) (ram : List ℕ) → entry (controller-at (left-by L F calls (initial-state L F) ram .state .core .controllers) c) ≡ reference-by L F c at-first (history calls ram)

@@ -37,7 +37,7 @@ module _ (F : Format) where
   service-number (FrameArrived sheet c frame) = none
 
   -- what a refused call leaves of this state and this memory
-  pub record Refused (call : Call F) (s : State F) (ram : List ℕ) (o : Outcome F) : Type 0 where
+  pub record Refused (call : Call F) (s : State F) (ram : List ℕ) (o : Outcome (State F)) : Type 0 where
     pub state-kept : o .state ≡ s
     pub ram-kept : o .ram ≡ ram
     pub error-told : o .notifications ≡ error-record (service-number call) (o .reason)

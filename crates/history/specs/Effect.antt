@@ -4,6 +4,7 @@ use Prim.Native.Nat.{ℕ}
 use mathlib.Core.Bool.{cond}
 use mathlib.Core.List.{List}
 use Rattle.rules.specs.Format.{Format}
+use Rattle.rules.specs.State.{State}
 use Rattle.rules.specs.Outcome.{Outcome, Answer, no-answer, mode, taken-by, stored-in, unwanted, lost}
 use Rattle.history.specs.Call.{Call, Init, DeInit, SetControllerMode, GetControllerMode, Write, MainFunctionWrite, MainFunctionRead, MainFunctionMode, MainFunctionBusOff, TxComplete, BusOffDetected, FrameArrived}
 use Rattle.history.specs.Trace.{Step, is-accepted}
@@ -63,7 +64,7 @@ module _ (F : Format) where
   accepted-effect (FrameArrived sheet c frame) answer = nothing
 
   -- "Accepted means that the call's return code is 0"
-  abbrev pub effect : Call F → Outcome F → Effect F
+  abbrev pub effect : Call F → Outcome (State F) → Effect F
   effect call o = cond (is-accepted o) (accepted-effect call (o .answer)) nothing
 
   abbrev pub effect-of : Step F → Effect F

@@ -9,7 +9,8 @@ use lib.Dec.{eqb}
 use Rattle.rules.specs.Limits.{Limits}
 use Rattle.rules.specs.Format.{Format}
 use Rattle.rules.specs.Notification.{Notification, tx-confirmation}
-use Rattle.rules.specs.Configuration.{object-at, no-configuration}
+use Rattle.rules.specs.Core.{owner-at}
+use Rattle.rules.specs.Configuration.{no-configuration}
 use Rattle.rules.specs.State.{initial-state}
 use Rattle.history.specs.Call.{Call, MainFunctionWrite, TxComplete, performed}
 use Rattle.history.specs.Trace.{Step, Left, trace, left-by, is-accepted}
@@ -68,7 +69,7 @@ module _ (L : Limits) (F : Format) where
 
     -- the object's controller, in the configuration that the calls have put in force, and its entry in the reference modes
     abbrev pub own-controller : ℕ
-    own-controller = object-at L F (force-by L F (no-configuration L F) (history L F before ram)) h .controller
+    own-controller = owner-at (force-by L F (no-configuration L F) (history L F before ram) .owners) h .controller
 
     abbrev pub own-entry : Reference
     own-entry = reference-by L F own-controller at-first (history L F before ram)

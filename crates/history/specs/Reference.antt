@@ -7,7 +7,7 @@ use Rattle.rules.specs.Limits.{Limits}
 use Rattle.rules.specs.Format.{Format}
 use Rattle.rules.specs.Mode.{UNINIT, STARTED, STOPPED, NO-REQUEST}
 use Rattle.rules.specs.Configuration.{controllers-byte}
-use Rattle.rules.specs.State.{Controller}
+use Rattle.rules.specs.Core.{Controller}
 use Rattle.history.specs.Trace.{Step}
 use Rattle.history.specs.Effect.{Configuring, configured, unconfigured, AtController, mode-asked, mode-told, bus-off, Poll, of-writes, of-modes, of-buses-off, Effect, nothing, configuring, at-object, at-controller, polling, effect-of}
 
@@ -36,7 +36,7 @@ stops r = takes-wish r && (eqb (r .mode) STARTED && not (eqb (r .wish) STARTED))
 module _ (L : Limits) (F : Format) (c : ℕ) where
   -- "Init: mode 2 for each controller below the count in its bytes. DeInit: all as at first."
   abbrev pub after-configuring : Configuring → Reference → Reference
-  after-configuring (configured bytes) r = cond (ltb c (controllers-byte L F bytes)) (record { mode = STOPPED; wish = r .wish; mark = r .mark }) r
+  after-configuring (configured bytes) r = cond (ltb c (controllers-byte bytes)) (record { mode = STOPPED; wish = r .wish; mark = r .mark }) r
   after-configuring unconfigured r = at-first
 
   -- "SetControllerMode: the wish becomes the mode asked for. Bus-off event: the mark is set."

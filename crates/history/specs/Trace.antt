@@ -13,10 +13,10 @@ use Rattle.history.specs.Call.{Call, performed}
 -- a call and what it left
 pub record Step (F : Format) : Type 0 where
   pub call : Call F
-  pub outcome : Outcome F
+  pub outcome : Outcome (State F)
 
 -- "Accepted means that the call's return code is 0"
-abbrev pub is-accepted : {F : Format} → Outcome F → Bool
+abbrev pub is-accepted : {S : Type 0} → Outcome S → Bool
 is-accepted o = eqb (o .code) E-OK
 
 module _ (L : Limits) (F : Format) where

@@ -2,6 +2,7 @@
 use crate::case::CASE_BYTES;
 use crate::case::Case;
 use crate::case::read_case;
+use crate::number::after;
 use crate::pattern::fill_memory;
 use crate::pattern::fill_sheet;
 use crate::pattern::memory_same;
@@ -12,7 +13,6 @@ use crate::print::unreadable;
 use crate::same::same;
 use calls::perform::Played;
 use calls::perform::perform;
-use config::bytes::after;
 use lines::count::of_bytes;
 use lines::count::of_words;
 use words::bytes::LONGEST_LINE;

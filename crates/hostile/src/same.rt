@@ -1,54 +1,7 @@
 // Whether two states are the same, field by field.
 use can::CONTROLLERS;
-use can::Controller;
-use can::Mailbox;
 use can::OBJECTS;
-use can::ObjectConfig;
 use can::State;
-
-fn controller(x: Controller, y: Controller) -> bool {
-    (x.mode == y.mode) & (x.requested_mode == y.requested_mode) & (x.bus_off == y.bus_off)
-}
-
-fn object(x: ObjectConfig, y: ObjectConfig) -> bool {
-    (x.controller == y.controller)
-        & (x.receiving == y.receiving)
-        & (x.payload == y.payload)
-        & (x.padding == y.padding)
-        & (x.code == y.code)
-        & (x.mask == y.mask)
-}
-
-fn mailbox(x: Mailbox, y: Mailbox) -> bool {
-    (x.tx_pending == y.tx_pending) & (x.tx_done == y.tx_done) & (x.rx_full == y.rx_full)
-}
-
-fn controllers(x: [Controller; CONTROLLERS], y: [Controller; CONTROLLERS]) -> bool {
-    let mut same = true;
-    for c in 0..CONTROLLERS {
-        let alike = controller(x[c], y[c]);
-        same = same & alike;
-    }
-    same
-}
-
-fn objects(x: [ObjectConfig; OBJECTS], y: [ObjectConfig; OBJECTS]) -> bool {
-    let mut same = true;
-    for h in 0..OBJECTS {
-        let alike = object(x[h], y[h]);
-        same = same & alike;
-    }
-    same
-}
-
-fn mailboxes(x: [Mailbox; OBJECTS], y: [Mailbox; OBJECTS]) -> bool {
-    let mut same = true;
-    for h in 0..OBJECTS {
-        let alike = mailbox(x[h], y[h]);
-        same = same & alike;
-    }
-    same
-}
 
 fn counts(x: State, y: State) -> bool {
     (x.initialised == y.initialised)
@@ -56,18 +9,55 @@ fn counts(x: State, y: State) -> bool {
         & (x.object_count == y.object_count)
 }
 
+fn controllers(x: State, y: State) -> bool {
+    let mut same = true;
+    for c in 0..CONTROLLERS {
+        same = same
+            & (x.modes[c] == y.modes[c])
+            & (x.requests[c] == y.requests[c])
+            & (x.marks[c] == y.marks[c]);
+    }
+    same
+}
+
+fn owners(x: State, y: State) -> bool {
+    let mut same = true;
+    for h in 0..OBJECTS {
+        same = same & (x.owners[h] == y.owners[h]) & (x.receivings[h] == y.receivings[h]);
+    }
+    same
+}
+
+fn settings(x: State, y: State) -> bool {
+    let mut same = true;
+    for h in 0..OBJECTS {
+        same = same
+            & (x.payloads[h] == y.payloads[h])
+            & (x.paddings[h] == y.paddings[h])
+            & (x.codes[h] == y.codes[h])
+            & (x.masks[h] == y.masks[h]);
+    }
+    same
+}
+
+fn mailboxes(x: State, y: State) -> bool {
+    let mut same = true;
+    for h in 0..OBJECTS {
+        same = same
+            & (x.pendings[h] == y.pendings[h])
+            & (x.dones[h] == y.dones[h])
+            & (x.fulls[h] == y.fulls[h]);
+    }
+    same
+}
+
 // The places of two states.
 fn places(x: State, y: State) -> bool {
-    let x_controllers = x.controllers;
-    let y_controllers = y.controllers;
-    let x_objects = x.objects;
-    let y_objects = y.objects;
-    let x_mailboxes = x.mailboxes;
-    let y_mailboxes = y.mailboxes;
-    let same_controllers = controllers(x_controllers, y_controllers);
-    let same_objects = objects(x_objects, y_objects);
-    let same_mailboxes = mailboxes(x_mailboxes, y_mailboxes);
-    same_controllers & same_objects & same_mailboxes
+    let same_controllers = controllers(x, y);
+    let same_owners = owners(x, y);
+    let same_settings = settings(x, y);
+    let same_mailboxes = mailboxes(x, y);
+    same_controllers & same_owners & same_settings & same_mailboxes
 }
 
 pub fn same(x: State, y: State) -> bool {

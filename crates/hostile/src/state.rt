@@ -4,10 +4,7 @@ use crate::number::further;
 use crate::number::number;
 use crate::number::small;
 use can::CONTROLLERS;
-use can::Controller;
-use can::Mailbox;
 use can::OBJECTS;
-use can::ObjectConfig;
 use can::State;
 
 // Bytes of the parts of a state: whether it is initialised and the two counts, then the places.
@@ -15,7 +12,7 @@ const HEAD: usize = 9;
 
 const CONTROLLER: usize = 3;
 
-const OBJECT: usize = 18;
+const OBJECT: usize = 12;
 
 const MAILBOX: usize = 3;
 
@@ -26,89 +23,113 @@ const MAILBOXES_AT: usize = OBJECTS_AT + OBJECT * OBJECTS;
 // Bytes of a state.
 pub const STATE_BYTES: usize = MAILBOXES_AT + MAILBOX * OBJECTS;
 
-fn controller(bytes: &[u8], at: usize) -> Controller {
-    let mode = small(bytes, at);
-    let requested_mode = small(bytes, further(at, 1));
-    let bus_off = flag(bytes, further(at, 2));
-    Controller {
-        mode: mode,
-        requested_mode: requested_mode,
-        bus_off: bus_off,
+// One field of every place: that of the first place stands at a position, and that of each further one so many bytes further on.
+fn bytes_of(bytes: &[u8], first: usize, step: usize, field: &mut [u8]) {
+    let mut at = first;
+    let mut i = 0;
+    while i < field.len() {
+        field[i] = small(bytes, at);
+        at = further(at, step);
+        i += 1;
     }
 }
 
-fn object(bytes: &[u8], at: usize) -> ObjectConfig {
-    let controller = number(bytes, at) as usize;
-    let receiving = flag(bytes, further(at, 4));
-    let payload = number(bytes, further(at, 5));
-    let padding = small(bytes, further(at, 9));
-    let code = number(bytes, further(at, 10));
-    let mask = number(bytes, further(at, 14));
-    ObjectConfig {
-        controller: controller,
-        receiving: receiving,
-        payload: payload,
-        padding: padding,
-        code: code,
-        mask: mask,
+// The same of a field that is a flag.
+fn flags_of(bytes: &[u8], first: usize, step: usize, field: &mut [bool]) {
+    let mut at = first;
+    let mut i = 0;
+    while i < field.len() {
+        field[i] = flag(bytes, at);
+        at = further(at, step);
+        i += 1;
     }
 }
 
-fn mailbox(bytes: &[u8], at: usize) -> Mailbox {
-    let tx_pending = flag(bytes, at);
-    let tx_done = flag(bytes, further(at, 1));
-    let rx_full = flag(bytes, further(at, 2));
-    Mailbox {
-        tx_pending: tx_pending,
-        tx_done: tx_done,
-        rx_full: rx_full,
+// The same of a field of four bytes.
+fn numbers_of(bytes: &[u8], first: usize, step: usize, field: &mut [u32]) {
+    let mut at = first;
+    let mut i = 0;
+    while i < field.len() {
+        field[i] = number(bytes, at);
+        at = further(at, step);
+        i += 1;
     }
 }
 
-fn controllers(bytes: &[u8], rest: [Controller; CONTROLLERS]) -> [Controller; CONTROLLERS] {
-    let mut places = rest;
-    let mut at = HEAD;
-    for c in 0..CONTROLLERS {
-        places[c] = controller(bytes, at);
-        at = further(at, CONTROLLER);
-    }
-    places
+// Mode, waiting request and off-bus mark of every controller.
+fn with_controllers(bytes: &[u8], state: State) -> State {
+    let mut modes = state.modes;
+    let mut requests = state.requests;
+    let mut marks = state.marks;
+    bytes_of(bytes, HEAD, CONTROLLER, &mut modes);
+    bytes_of(bytes, HEAD + 1, CONTROLLER, &mut requests);
+    flags_of(bytes, HEAD + 2, CONTROLLER, &mut marks);
+    let mut next = state;
+    next.modes = modes;
+    next.requests = requests;
+    next.marks = marks;
+    next
 }
 
-fn objects(bytes: &[u8], rest: [ObjectConfig; OBJECTS]) -> [ObjectConfig; OBJECTS] {
-    let mut places = rest;
-    let mut at = OBJECTS_AT;
-    for h in 0..OBJECTS {
-        places[h] = object(bytes, at);
-        at = further(at, OBJECT);
-    }
-    places
+// Controller and kind of every object.
+fn with_owners(bytes: &[u8], state: State) -> State {
+    let mut owners = state.owners;
+    let mut receivings = state.receivings;
+    bytes_of(bytes, OBJECTS_AT, OBJECT, &mut owners);
+    flags_of(bytes, OBJECTS_AT + 1, OBJECT, &mut receivings);
+    let mut next = state;
+    next.owners = owners;
+    next.receivings = receivings;
+    next
 }
 
-fn mailboxes(bytes: &[u8], rest: [Mailbox; OBJECTS]) -> [Mailbox; OBJECTS] {
-    let mut places = rest;
-    let mut at = MAILBOXES_AT;
-    for h in 0..OBJECTS {
-        places[h] = mailbox(bytes, at);
-        at = further(at, MAILBOX);
-    }
-    places
+// Payload and padding value of every object.
+fn with_payloads(bytes: &[u8], state: State) -> State {
+    let mut payloads = state.payloads;
+    let mut paddings = state.paddings;
+    bytes_of(bytes, OBJECTS_AT + 2, OBJECT, &mut payloads);
+    bytes_of(bytes, OBJECTS_AT + 3, OBJECT, &mut paddings);
+    let mut next = state;
+    next.payloads = payloads;
+    next.paddings = paddings;
+    next
+}
+
+// The filter of every object.
+fn with_filters(bytes: &[u8], state: State) -> State {
+    let mut codes = state.codes;
+    let mut masks = state.masks;
+    numbers_of(bytes, OBJECTS_AT + 4, OBJECT, &mut codes);
+    numbers_of(bytes, OBJECTS_AT + 8, OBJECT, &mut masks);
+    let mut next = state;
+    next.codes = codes;
+    next.masks = masks;
+    next
+}
+
+// What waits in every object.
+fn with_mailboxes(bytes: &[u8], state: State) -> State {
+    let mut pendings = state.pendings;
+    let mut dones = state.dones;
+    let mut fulls = state.fulls;
+    flags_of(bytes, MAILBOXES_AT, MAILBOX, &mut pendings);
+    flags_of(bytes, MAILBOXES_AT + 1, MAILBOX, &mut dones);
+    flags_of(bytes, MAILBOXES_AT + 2, MAILBOX, &mut fulls);
+    let mut next = state;
+    next.pendings = pendings;
+    next.dones = dones;
+    next.fulls = fulls;
+    next
 }
 
 pub fn state(bytes: &[u8]) -> State {
-    let rest = can::initial_state();
-    let idle = rest.controllers;
-    let unused = rest.objects;
-    let empty = rest.mailboxes;
-    let controllers = controllers(bytes, idle);
-    let objects = objects(bytes, unused);
-    let mailboxes = mailboxes(bytes, empty);
-    State {
-        initialised: flag(bytes, 0),
-        controller_count: number(bytes, 1) as usize,
-        object_count: number(bytes, 5) as usize,
-        controllers: controllers,
-        objects: objects,
-        mailboxes: mailboxes,
-    }
+    let mut state = can::initial_state();
+    state.initialised = flag(bytes, 0);
+    state.controller_count = number(bytes, 1) as usize;
+    state.object_count = number(bytes, 5) as usize;
+    state = with_controllers(bytes, state);
+    state = with_owners(bytes, state);
+    state = with_payloads(bytes, state);
+    state = with_filters(bytes, state);
+    with_mailboxes(bytes, state)
 }

@@ -1,41 +1,56 @@
--- What an accepted write tells.
-use Prim.Native.Nat.{ℕ}
+-- What an accepted call passed: its gate, and for a write its own checks.
+use Prim.Native.Nat.{ℕ, _≤_}
 use mathlib.Core.Path.{_≡_, refl}
-use mathlib.Core.Bool.{Bool, true, false, not}
-use mathlib.Core.List.{List, [], _∷_, _++_}
-use Rattle.rules.specs.Limits.{Limits}
-use Rattle.rules.specs.Format.{Format, Lawful}
-use Rattle.rules.specs.Reason.{Check, _if_, first-reason, reasons-named, CAN-E-UNINIT, CAN-E-PARAM-HANDLE, NOT-STARTED, OBJECT-BUSY}
-use Rattle.rules.specs.Configuration.{object-at}
-use Rattle.rules.specs.State.{State, mailbox-at, is-started}
-use Rattle.rules.specs.Outcome.{full-gate}
-use Rattle.rules.specs.Services.{is-sending, controller-of, write-checks}
+use mathlib.Core.Bool.{true, false, not}
+use mathlib.Core.List.{List, [], _∷_}
+use lib.ListN.{length}
+use lib.Dec.{eqb}
+use borrow.Author.Tests.{eqb-true, ltb-false}
+use Rattle.rules.specs.Limits.{Limits, sheet-size, ram-size}
+use Rattle.rules.specs.Format.{Format}
+use Rattle.rules.specs.Reason.{first-reason, _then_, reasons-named}
+use Rattle.rules.specs.Core.{Core, mailbox-at, is-started, is-sending, controller-of}
+use Rattle.rules.specs.State.{State, valid}
+use Rattle.rules.specs.Outcome.{state-check, sheet-check, ram-check, full-gate}
+use Rattle.rules.specs.Services.{sending-checks, free-checks, write-reason}
 use Rattle.laws.proofs.Tests.{not-false}
-use Rattle.laws.proofs.Reasons.{front-passed, rest-passed, check-passed}
+use Rattle.laws.proofs.Reasons.{then-first, then-second, check-passed}
+
+pub record GatePassed (L : Limits) (F : Format) (s : State F) (sheet : ℕ) (ram : List ℕ) : Type 0 where
+  pub sound : valid L F s ≡ true
+  pub sheet-holds : sheet-size L ≤ sheet
+  pub ram-whole : length ram ≡ ram-size L
+
+pub gate-passed : (L : Limits) (F : Format) (s : State F) (sheet : ℕ) (ram : List ℕ) → full-gate L F s sheet ram ≡ 0 → GatePassed L F s sheet ram
+unfolding full-gate reasons-named
+gate-passed L F s sheet ram r =
+    let gate = state-check L F s ∷ sheet-check L F sheet ∷ ram-check L F ram ∷ [] in
+    record {
+      sound = not-false (valid L F s) (check-passed 0 gate refl r);
+      sheet-holds = ltb-false sheet (sheet-size L) (check-passed 1 gate refl r);
+      ram-whole = eqb-true (length ram) (ram-size L) (not-false (eqb (length ram) (ram-size L)) (check-passed 2 gate refl r));
+    }
 
 -- the tests that a write passes beyond the room for it
-pub record WritePassed (L : Limits) (F : Format) (s : State F) (h : ℕ) (frame : F .Frame) : Type 0 where
-  pub initialised : s .initialised ≡ true
-  pub sending : is-sending L F s h ≡ true
-  pub frame-fits : first-reason (F .write-checks (object-at L F (s .configuration) h .settings) frame) ≡ 0
-  pub started : is-started (controller-of L F s h) ≡ true
-  pub free : mailbox-at (s .mailboxes) h .tx-pending ≡ false
+pub record WritePassed (core : Core) (h frame : ℕ) : Type 0 where
+  pub initialised : core .initialised ≡ true
+  pub sending : is-sending core h ≡ true
+  pub frame-fits : frame ≡ 0
+  pub started : is-started (controller-of core h) ≡ true
+  pub free : mailbox-at (core .mailboxes) h .tx-pending ≡ false
 
-module _ (L : Limits) (F : Format) (lawful : Lawful L F) (s : State F) (sheet : ℕ) (ram : List ℕ) (h : ℕ) (frame : F .Frame) where
-  pub write-passed : first-reason (full-gate L F s sheet ram ++ write-checks L F s h frame) ≡ 0 → WritePassed L F s h frame
-  unfolding reasons-named
-  write-passed r =
-      let own = F .write-checks (object-at L F (s .configuration) h .settings) frame in
-      let front = CAN-E-UNINIT if not (s .initialised) ∷ CAN-E-PARAM-HANDLE if not (is-sending L F s h) ∷ [] in
-      let back = NOT-STARTED if not (is-started (controller-of L F s h)) ∷ OBJECT-BUSY if mailbox-at (s .mailboxes) h .tx-pending ∷ [] in
-      let named = lawful .write-reasons (object-at L F (s .configuration) h .settings) frame in
-      let r₁ = rest-passed (full-gate L F s sheet ram) (front ++ (own ++ back)) refl r in
-      let r₂ = rest-passed front (own ++ back) refl r₁ in
-      let r₃ = rest-passed own back named r₂ in
-      record {
-        initialised = not-false (s .initialised) (check-passed 0 front refl (front-passed front (own ++ back) refl r₁));
-        sending = not-false (is-sending L F s h) (check-passed 1 front refl (front-passed front (own ++ back) refl r₁));
-        frame-fits = front-passed own back named r₂;
-        started = not-false (is-started (controller-of L F s h)) (check-passed 0 back refl r₃);
-        free = check-passed 1 back refl r₃;
-      }
+pub write-passed : (core : Core) (h frame : ℕ) → write-reason core h frame ≡ 0 → WritePassed core h frame
+unfolding reasons-named
+write-passed core h frame r =
+    let front = sending-checks core h in
+    let back = free-checks core h in
+    let r₁ = then-first (first-reason front) (frame then first-reason back) r in
+    let r₂ = then-second (first-reason front) (frame then first-reason back) r in
+    let r₃ = then-second frame (first-reason back) r₂ in
+    record {
+      initialised = not-false (core .initialised) (check-passed 0 front refl r₁);
+      sending = not-false (is-sending core h) (check-passed 1 front refl r₁);
+      frame-fits = then-first frame (first-reason back) r₂;
+      started = not-false (is-started (controller-of core h)) (check-passed 0 back refl r₃);
+      free = check-passed 1 back refl r₃;
+    }

@@ -1,13 +1,13 @@
 -- Laws of repetition below n.
 use Prim.Native.Nat.{ℕ, zero, suc, _+_, _≤_, _<_}
-use mathlib.Core.Path.{_≡_, refl, ap, sym, _∙_, subst}
-use mathlib.Core.Bool.{Bool, true, false, cond, _&&_}
+use mathlib.Core.Path.{_≡_, refl, ap, ap₂, sym, _∙_, subst}
+use mathlib.Core.Bool.{Bool, true, false, cond, _&&_, and-true}
 use mathlib.Core.List.{List, [], _∷_, _++_}
 use mathlib.Core.Logic.{_⊎_, inl, inr, ⊎-elim}
 use native.Mathlib.Omega.{arith}
 use native.Mathlib.Decide.{decLt, ℕ-discrete}
 use native.Mathlib.Numerals.{add-one}
-use native.Mathlib.Nat.{add-zero}
+use native.Mathlib.Nat.{add-zero, eq-or-lt-of-le}
 use lib.ListN.{length, getD, length-append, List·getD-append, replicate, length-replicate, getD-replicate, List·getD-eq-default}
 use lib.Seq.{getD-append-seam}
 use Rattle.rules.specs.Repeat.{rising, all-below, list-below}
@@ -38,6 +38,28 @@ pub facts-all : (n : ℕ) (p : ℕ → Bool) → ((i : ℕ) → i < n → p i �
 unfolding all-below
 facts-all zero p h = refl
 facts-all (suc n) p h = both (facts-all n p (λ i k. h i (omega arith))) (h n (omega arith))
+
+-- tests that agree below n
+pub all-below-ext : (n : ℕ) (p q : ℕ → Bool) → ((i : ℕ) → i < n → p i ≡ q i) → all-below n p ≡ all-below n q
+unfolding all-below
+all-below-ext zero p q h = refl
+all-below-ext (suc n) p q h = ap₂ _&&_ (all-below-ext n p q (λ i l. h i (omega arith))) (h n (omega arith))
+
+-- a turn of a loop that tests every number
+pub all-below-more : (p : ℕ → Bool) (n : ℕ) {ok r : Bool} → ok ≡ all-below n p → r ≡ p n → (ok && r) ≡ all-below (n + 1) p
+unfolding all-below
+all-below-more p n e q = rw (add-one, e, q)
+
+-- a test that holds of every number from m
+pub all-below-from : (p : ℕ → Bool) (m n : ℕ) → m ≤ n → ((i : ℕ) → m ≤ i → i < n → p i ≡ true) → all-below n p ≡ all-below m p
+unfolding all-below
+all-below-from p m zero l h = ap (λ (k : ℕ). all-below k p) (let e : 0 ≡ m = omega arith in e)
+all-below-from p m (suc n) l h =
+    ⊎-elim (λ e. ap (λ (k : ℕ). all-below k p) (sym e))
+    (λ lt.
+    let le : m ≤ n = omega arith in
+    rw (h n le (omega arith)) (and-true (all-below n p) ∙ all-below-from p m n le (λ i a b. h i a (omega arith))))
+    (eq-or-lt-of-le l)
 
 pub length-list-below : {A : Type 0} (n : ℕ) (f : ℕ → A) → length (list-below n f) ≡ n
 unfolding list-below

@@ -2,7 +2,7 @@
 use Prim.Native.Nat.{ℕ, zero, suc, _≤_, _<_}
 use mathlib.Core.Path.{_≡_, refl, ap, sym, _∙_}
 use mathlib.Core.Bool.{Bool, true, false, not, cond, _&&_, _||_, or-true, and-false}
-use mathlib.Core.List.{List, [], _∷_, _++_}
+use mathlib.Core.List.{List, [], _∷_}
 use mathlib.Core.Option.{Option, none, some}
 use mathlib.Core.Logic.{_⊎_, inl, inr, ⊎-elim}
 use native.Mathlib.Omega.{arith}
@@ -13,20 +13,26 @@ use Rattle.rules.specs.Limits.{Limits}
 use Rattle.rules.specs.Format.{Format, Lawful}
 use Rattle.rules.specs.Repeat.{rising, all-below, better, best-below}
 use Rattle.rules.specs.Mode.{STARTED, STOPPED, SLEEP, permitted}
-use Rattle.rules.specs.Reason.{Check, _if_, first-reason, reasons-named}
-use Rattle.rules.specs.Configuration.{Configuration, object-at, configuration-of, accepted-bytes, configuration-valid, counts-valid, object-places-valid, object-place-valid, header-valid, size-valid, kind-valid, objects-byte, no-configuration, unused-object, object-unused}
-use Rattle.rules.specs.State.{Controller, Mailbox, State, idle-controller, empty-mailbox, controller-at, mailbox-at, controller-valid, controller-idle, mailbox-valid, is-started, valid, initial-state, controller-place-valid, mailbox-place-valid}
-use Rattle.rules.specs.Outcome.{Outcome, judged, full-gate, sheet-gate, state-gate}
-use Rattle.rules.specs.Services.{init, deinit, set-controller-mode, get-controller-mode, write, init-checks, set-controller-mode-checks, write-checks, configured-state, stopped-controller, with-request, written-mailbox, in-use, is-sending, controller-of, with-mailboxes, with-controllers}
-use Rattle.rules.specs.Polls.{Boxes, Sweep, confirm-one, indicate-one, boxes-of, sweep-of, after-sweep, confirmed, indicated, modes-changed, buses-off, mode-one, change-mode, bus-off-one, go-bus-off, cancel-all, entering-request, entering-bus-off, takes-request, leaves-started, main-function-write, main-function-read, main-function-mode, main-function-bus-off}
-use Rattle.rules.specs.Events.{tx-complete, bus-off-detected, frame-arrived, tx-complete-checks, on-bus-checks, has-unsent, sent-mailbox, filled-mailbox, marked-bus-off, fits-frame, best-object, received, not-stored}
+use Rattle.rules.specs.Reason.{first-reason, _then_, reasons-named}
+use Rattle.rules.specs.Core.{Controller, Owner, Mailbox, Core, idle-controller, unused-owner, empty-mailbox, controller-at, owner-at, mailbox-at, is-started, in-use, is-sending, controller-of, with-controllers, with-mailboxes, controller-valid, mailbox-valid, owner-place-valid, controller-place-valid, mailbox-place-valid, counts-valid, owners-valid, core-valid, initial-core}
+use Rattle.rules.specs.Configuration.{configuration-of, accepted-bytes, configuration-valid, header-valid, size-valid, kind-valid, objects-byte, controllers-byte, settings-place-valid, all-settings-valid}
+use Rattle.rules.specs.State.{State, with-core, valid, initial-state}
+use Rattle.rules.specs.Outcome.{Outcome, judged, lifted, state-gate, sheet-gate, full-gate}
+use Rattle.rules.specs.Services as services
+use Rattle.rules.specs.Services.{set-controller-mode-checks, get-controller-mode-checks, configured-core, stopped-controller, with-request, mode-requested, write-reason, written-mailbox, taken}
+use Rattle.rules.specs.Polls.{Boxes, Sweep, Visit, Turn, visit-all, cancellation, boxes-of, sweep-of, after-sweep, turn-one, turn-all, mode-change, going-off, entering-request, entering-bus-off, takes-request, leaves-started, objects-polled, controllers-polled}
+use Rattle.rules.specs.Polls as polls
+use Rattle.rules.specs.Events as events
+use Rattle.rules.specs.Events.{tx-complete-checks, on-bus-checks, has-unsent, sent-mailbox, filled-mailbox, marked-bus-off, fits-frame, filled}
+use Rattle.rules.specs.Calls.{init, deinit, set-controller-mode, get-controller-mode, write, main-function-write, main-function-read, main-function-mode, main-function-bus-off, tx-complete, bus-off-detected, frame-arrived, init-checks, configured-state, frame-reason, best-object, received, not-stored}
 use Rattle.laws.proofs.Tests.{both, left, right, clash, decide, cond-both, not-true, not-false}
 use Rattle.laws.proofs.Repeat.{rising-keeps, facts-all, length-list-below, getD-list-below, last-or-below}
-use Rattle.laws.proofs.Reasons.{front-passed, rest-passed, check-passed, judged-either}
-use Rattle.laws.proofs.Validity.{Valid, valid-facts, facts-valid}
+use Rattle.laws.proofs.Reasons.{then-first, then-second, check-passed, judged-either}
+use Rattle.laws.proofs.Validity.{Valid, core-facts, facts-core, CoreKept, state-core, core-stays}
+use Rattle.laws.proofs.Sweeps.{boxes-length}
 use Rattle.laws.proofs.Changes.{not-pending, pending-needs-started, empty-valid, controllers-within, objects-within, set-mailbox-valid, sweep-valid, set-controller-valid}
+use Rattle.laws.proofs.Cancelling.{cancelled-own, cancelled-others}
 use Rattle.laws.proofs.Acceptance.{WritePassed, write-passed}
-use Rattle.laws.proofs.Cancelling.{confirm-step, indicate-step, cancelled-length, cancelled-own, cancelled-others}
 
 none-some : {h : ℕ} → _≡_ {A = Option ℕ} none (some h) → ⊥
 none-some e = let z : _≡_ {A = ℕ} 0 1 = cc in omega arith
@@ -84,250 +90,309 @@ unfolding best-below
 chosen-fits zero fits rank h e = absurd (none-some e)
 chosen-fits (suc n) fits rank h e = better-fits n fits rank h (best-below n fits rank) (λ b. chosen-fits n fits rank b) e
 
-module _ (L : Limits) (F : Format) where
+-- The calls on the core
+
+module _ (L : Limits) where
   -- the mailbox of an object in use
-  pub own-mailbox : (s : State F) → Valid L F s → (h : ℕ) → h < s .configuration .object-count
-      → mailbox-valid (object-at L F (s .configuration) h .receiving) (is-started (controller-of L F s h)) (mailbox-at (s .mailboxes) h) ≡ true
-  own-mailbox s v h l =
-      let w = objects-within L F s v in
-      rw (lt-ltb h (s .configuration .object-count) l) at (v .mailboxes h (omega arith))
+  pub own-mailbox : (core : Core) → Valid L core → (h : ℕ) → h < core .object-count
+      → mailbox-valid (owner-at (core .owners) h .receiving) (is-started (controller-of core h)) (mailbox-at (core .mailboxes) h) ≡ true
+  own-mailbox core v h l = let w = objects-within L core v in rw (lt-ltb h (core .object-count) l) at (v .mailboxes h (omega arith))
 
   -- a controller in use
-  pub own-controller : (s : State F) → Valid L F s → (c : ℕ) → c < s .configuration .controller-count → controller-valid (controller-at (s .controllers) c) ≡ true
-  own-controller s v c l =
-      let w = controllers-within L F s v in
-      rw (lt-ltb c (s .configuration .controller-count) l) at (v .controllers c (omega arith))
+  pub own-controller : (core : Core) → Valid L core → (c : ℕ) → c < core .controller-count → controller-valid (controller-at (core .controllers) c) ≡ true
+  own-controller core v c l = let w = controllers-within L core v in rw (lt-ltb c (core .controller-count) l) at (v .controllers c (omega arith))
 
   -- the same mailboxes beside a controller whose being STARTED does not change
-  same-mode-valid : (s : State F) → Valid L F s → (c : ℕ) (k : Controller) → c < s .configuration .controller-count → controller-valid k ≡ true
-      → is-started k ≡ is-started (controller-at (s .controllers) c) → Valid L F (with-controllers L F s (set (s .controllers) c k))
-  same-mode-valid s v c k l kv same =
-      set-controller-valid L F s v c k (s .mailboxes) l kv (v .mailbox-places)
-      (λ h lh e. rw (same, ← e) (own-mailbox s v h lh))
+  same-mode-valid : (core : Core) → Valid L core → (c : ℕ) (k : Controller) → c < core .controller-count → controller-valid k ≡ true
+      → is-started k ≡ is-started (controller-at (core .controllers) c) → Valid L (with-controllers core (set (core .controllers) c k))
+  same-mode-valid core v c k l kv same =
+      set-controller-valid L core v c k (core .mailboxes) l kv (v .mailbox-places)
+      (λ h lh e. rw (same, ← e) (own-mailbox core v h lh))
       (λ h other. refl)
 
-  pub initial-valid : Lawful L F → valid L F (initial-state L F) ≡ true
-  initial-valid lawful =
-      facts-valid L F (initial-state L F)
-      (record {
-        controller-places = length-replicate (L .controllers) idle-controller;
-        object-places = length-list-below (L .objects) (λ h. unused-object L F);
-        mailbox-places = length-replicate (L .objects) empty-mailbox;
-        counts = refl;
-        objects = facts-all (L .objects) (object-place-valid L F (no-configuration L F)) (λ h l. rw (leb·suc-zero h, getD-list-below (L .objects) (λ h. unused-object L F) h (unused-object L F) l) (lawful .unused));
-        controllers = λ c l. rw (leb·suc-zero c, getD-replicate (L .controllers) c idle-controller idle-controller l);
-        mailboxes = λ h l. rw (leb·suc-zero h, getD-replicate (L .objects) h empty-mailbox empty-mailbox l);
-      })
+  -- a call leaves a core that is valid, with the owners as they were: it is refused, or changes controllers and mailboxes alone
+  same-core : (core : Core) → core-valid L core ≡ true → CoreKept L core core
+  same-core core v = record { stays = v; count-kept = refl; owners-kept = refl }
 
-  pub configured-valid : (bytes : List ℕ) → accepted-bytes L F bytes ≡ true → Valid L F (configured-state L F (configuration-of L F bytes))
-  unfolding accepted-bytes configuration-of
-  configured-valid bytes a =
-      let cfg = configuration-of L F bytes in
-      let cv = right (header-valid L F bytes && size-valid L F bytes && all-below (objects-byte L F bytes) (kind-valid L F bytes)) (configuration-valid L F cfg) a in
-      record {
-        controller-places = length-list-below (L .controllers) (λ k. cond (ltb k (cfg .controller-count)) stopped-controller idle-controller);
-        object-places = length-list-below (L .objects) _;
-        mailbox-places = length-replicate (L .objects) empty-mailbox;
-        counts = left (counts-valid L F cfg) (object-places-valid L F cfg) cv;
-        objects = right (counts-valid L F cfg) (object-places-valid L F cfg) cv;
-        controllers = λ c l. control c l (decide (ltb c (cfg .controller-count)));
-        mailboxes = λ h l. rw (getD-replicate (L .objects) h empty-mailbox empty-mailbox l) (empty-valid (ltb h (cfg .object-count)) false false);
-      }
-    where
-      control : (c : ℕ) → c < L .controllers → (ltb c (configuration-of L F bytes .controller-count) ≡ true) ⊎ (ltb c (configuration-of L F bytes .controller-count) ≡ false)
-          → controller-place-valid L F (configured-state L F (configuration-of L F bytes)) c ≡ true
-      control c l (inl t) = rw (getD-list-below (L .controllers) (λ k. cond (ltb k (configuration-of L F bytes .controller-count)) stopped-controller idle-controller) c idle-controller l, t)
-      control c l (inr t) = rw (getD-list-below (L .controllers) (λ k. cond (ltb k (configuration-of L F bytes .controller-count)) stopped-controller idle-controller) c idle-controller l, t)
+  changed : (core : Core) (ks : List Controller) (ms : List Mailbox) → Valid L (with-mailboxes (with-controllers core ks) ms) → CoreKept L core (with-mailboxes (with-controllers core ks) ms)
+  changed core ks ms v = record { stays = facts-core L _ v; count-kept = refl; owners-kept = refl }
 
-  -- Services
+  module _ (gate : ℕ) (core : Core) (ram : List ℕ) (v : core-valid L core ≡ true) where
+    facts : Valid L core
+    facts = core-facts L core v
 
-  pub init-stays-valid : (s : State F) (sheet : ℕ) (ram bytes : List ℕ) → valid L F s ≡ true → valid L F (init L F s sheet ram bytes .state) ≡ true
-  unfolding init reasons-named
-  init-stays-valid s sheet ram bytes v =
-      judged-either F (λ (o : Outcome F). valid L F (o .state) ≡ true) (first-reason (full-gate L F s sheet ram ++ init-checks L F s bytes)) _ _ v
-      (λ r. facts-valid L F (configured-state L F (configuration-of L F bytes)) (configured-valid bytes (not-false (accepted-bytes L F bytes) (check-passed 4 (full-gate L F s sheet ram ++ init-checks L F s bytes) refl r))))
+    abbrev Kept : Outcome Core → Type 0
+    Kept o = CoreKept L core (o .state)
 
-  pub deinit-stays-valid : Lawful L F → (s : State F) (sheet : ℕ) (ram : List ℕ) → valid L F s ≡ true → valid L F (deinit L F s sheet ram .state) ≡ true
-  unfolding deinit
-  deinit-stays-valid lawful s sheet ram v = judged-either F (λ (o : Outcome F). valid L F (o .state) ≡ true) _ _ _ v (λ r. initial-valid lawful)
+    pub get-controller-mode-kept : (c : ℕ) → Kept (services.get-controller-mode gate core ram c)
+    unfolding services.get-controller-mode
+    get-controller-mode-kept c = judged-either Kept _ _ _ (same-core core v) (λ r. same-core core v)
 
-  pub get-controller-mode-stays-valid : (s : State F) (sheet : ℕ) (ram : List ℕ) (c : ℕ) → valid L F s ≡ true → valid L F (get-controller-mode L F s sheet ram c .state) ≡ true
-  unfolding get-controller-mode
-  get-controller-mode-stays-valid s sheet ram c v = judged-either F (λ (o : Outcome F). valid L F (o .state) ≡ true) _ _ _ v (λ r. v)
+    pub set-controller-mode-kept : (c asked : ℕ) → Kept (services.set-controller-mode gate core ram c asked)
+    unfolding services.set-controller-mode reasons-named
+    set-controller-mode-kept c asked = judged-either Kept (gate then first-reason (set-controller-mode-checks core c asked)) _ _ (same-core core v) next
+      where
+        next : (gate then first-reason (set-controller-mode-checks core c asked)) ≡ 0 → CoreKept L core (mode-requested core c asked)
+        next r =
+            let k = controller-at (core .controllers) c in
+            let checks = set-controller-mode-checks core c asked in
+            let own = then-second gate (first-reason checks) r in
+            let l = ltb-true c (core .controller-count) (not-false (in-use core c) (check-passed 1 checks refl own)) in
+            let move = not-false (permitted (k .mode) asked) (check-passed 2 checks refl own) in
+            let kv = own-controller core facts c l in
+            let bounds = leb STARTED (k .mode) && leb (k .mode) SLEEP in
+            let request = eqb (k .requested-mode) 0 || permitted (k .mode) (k .requested-mode) in
+            let mark = not (k .bus-off) || is-started k in
+            changed core _ (core .mailboxes)
+            (same-mode-valid core facts c (with-request asked k) l
+            (both (both (left bounds request (left (bounds && request) mark kv)) (rw move (or-true (eqb asked 0)))) (right (bounds && request) mark kv))
+            refl)
 
-  pub set-controller-mode-stays-valid : (s : State F) (sheet : ℕ) (ram : List ℕ) (c asked : ℕ) → valid L F s ≡ true → valid L F (set-controller-mode L F s sheet ram c asked .state) ≡ true
-  unfolding set-controller-mode reasons-named
-  set-controller-mode-stays-valid s sheet ram c asked v =
-      judged-either F (λ (o : Outcome F). valid L F (o .state) ≡ true) (first-reason (sheet-gate L F s sheet ++ set-controller-mode-checks L F s c asked)) _ _ v next
-    where
-      next : first-reason (sheet-gate L F s sheet ++ set-controller-mode-checks L F s c asked) ≡ 0
-          → valid L F (with-controllers L F s (set (s .controllers) c (with-request asked (controller-at (s .controllers) c)))) ≡ true
-      next r =
-          let k = controller-at (s .controllers) c in
-          let checks = sheet-gate L F s sheet ++ set-controller-mode-checks L F s c asked in
-          let facts = valid-facts L F s v in
-          let l = ltb-true c (s .configuration .controller-count) (not-false (in-use L F s c) (check-passed 3 checks refl r)) in
-          let move = not-false (permitted (k .mode) asked) (check-passed 4 checks refl r) in
-          let kv = own-controller s facts c l in
-          let bounds = leb STARTED (k .mode) && leb (k .mode) SLEEP in
-          let request = eqb (k .requested-mode) 0 || permitted (k .mode) (k .requested-mode) in
-          let mark = not (k .bus-off) || is-started k in
-          facts-valid L F _
-          (same-mode-valid s facts c (with-request asked k) l
-          (both (both (left bounds request (left (bounds && request) mark kv)) (rw move (or-true (eqb asked 0)))) (right (bounds && request) mark kv))
-          refl)
+    -- a write that is taken
+    pub taken-kept : (h frame : ℕ) → write-reason core h frame ≡ 0 → CoreKept L core (taken core h)
+    taken-kept h frame r =
+        let w = write-passed core h frame r in
+        let number = ltb h (core .object-count) in
+        let kind = not (owner-at (core .owners) h .receiving) in
+        changed core (core .controllers) _
+        (set-mailbox-valid L core facts h written-mailbox (ltb-true h (core .object-count) (left number kind (w .sending)))
+        (both (both (both (right number kind (w .sending)) (w .started)) refl) refl))
 
-  pub write-stays-valid : Lawful L F → (s : State F) (sheet : ℕ) (ram : List ℕ) (h handle : ℕ) (frame : F .Frame) → valid L F s ≡ true → valid L F (write L F s sheet ram h handle frame .state) ≡ true
-  unfolding write
-  write-stays-valid lawful s sheet ram h handle frame v =
-      judged-either F (λ (o : Outcome F). valid L F (o .state) ≡ true) (first-reason (full-gate L F s sheet ram ++ write-checks L F s h frame)) _ _ v
-      (λ r. facts-valid L F _ (taken (write-passed L F lawful s sheet ram h frame r)))
-    where
-      taken : WritePassed L F s h frame → Valid L F (with-mailboxes L F s (set (s .mailboxes) h written-mailbox))
-      taken w =
-          let number = ltb h (s .configuration .object-count) in
-          let kind = not (object-at L F (s .configuration) h .receiving) in
-          set-mailbox-valid L F s (valid-facts L F s v) h written-mailbox (ltb-true h (s .configuration .object-count) (left number kind (w .sending)))
-          (both (both (both (right number kind (w .sending)) (w .started)) refl) refl)
+    pub tx-complete-kept : (h : ℕ) → Kept (events.tx-complete gate core ram h)
+    unfolding events.tx-complete reasons-named
+    tx-complete-kept h = judged-either Kept (gate then first-reason (tx-complete-checks core h)) _ _ (same-core core v) next
+      where
+        next : (gate then first-reason (tx-complete-checks core h)) ≡ 0 → CoreKept L core (with-mailboxes core (set (core .mailboxes) h sent-mailbox))
+        next r =
+            let checks = tx-complete-checks core h in
+            let own = then-second gate (first-reason checks) r in
+            let m = mailbox-at (core .mailboxes) h in
+            let o = owner-at (core .owners) h in
+            let sending = not-false (is-sending core h) (check-passed 1 checks refl own) in
+            let unsent = not-false (has-unsent m) (check-passed 2 checks refl own) in
+            let l = ltb-true h (core .object-count) (left (ltb h (core .object-count)) (not (o .receiving)) sending) in
+            changed core (core .controllers) _
+            (set-mailbox-valid L core facts h sent-mailbox l
+            (both (both (pending-facts (o .receiving) (is-started (controller-of core h)) m (own-mailbox core facts h l) (left (m .tx-pending) (not (m .tx-done)) unsent)) refl) refl))
 
-  -- Events
+    pub bus-off-detected-kept : (c : ℕ) → Kept (events.bus-off-detected gate core ram c)
+    unfolding events.bus-off-detected reasons-named
+    bus-off-detected-kept c = judged-either Kept (gate then first-reason (on-bus-checks core c)) _ _ (same-core core v) next
+      where
+        next : (gate then first-reason (on-bus-checks core c)) ≡ 0 → CoreKept L core (with-controllers core (set (core .controllers) c (marked-bus-off (controller-at (core .controllers) c))))
+        next r =
+            let k = controller-at (core .controllers) c in
+            let checks = on-bus-checks core c in
+            let own = then-second gate (first-reason checks) r in
+            let l = ltb-true c (core .controller-count) (not-false (in-use core c) (check-passed 1 checks refl own)) in
+            let started = not-false (is-started k) (check-passed 2 checks refl own) in
+            let rest = leb STARTED (k .mode) && leb (k .mode) SLEEP && (eqb (k .requested-mode) 0 || permitted (k .mode) (k .requested-mode)) in
+            changed core _ (core .mailboxes)
+            (same-mode-valid core facts c (marked-bus-off k) l (both (left rest (not (k .bus-off) || is-started k) (own-controller core facts c l)) started) refl)
 
-  pub tx-complete-stays-valid : (s : State F) (ram : List ℕ) (h : ℕ) → valid L F s ≡ true → valid L F (tx-complete L F s ram h .state) ≡ true
-  unfolding tx-complete reasons-named
-  tx-complete-stays-valid s ram h v =
-      judged-either F (λ (o : Outcome F). valid L F (o .state) ≡ true) (first-reason (state-gate L F s ++ tx-complete-checks L F s h)) _ _ v next
-    where
-      next : first-reason (state-gate L F s ++ tx-complete-checks L F s h) ≡ 0 → valid L F (with-mailboxes L F s (set (s .mailboxes) h sent-mailbox)) ≡ true
-      next r =
-          let checks = state-gate L F s ++ tx-complete-checks L F s h in
-          let facts = valid-facts L F s v in
-          let m = mailbox-at (s .mailboxes) h in
-          let o = object-at L F (s .configuration) h in
-          let sending = not-false (is-sending L F s h) (check-passed 2 checks refl r) in
-          let unsent = not-false (has-unsent m) (check-passed 3 checks refl r) in
-          let l = ltb-true h (s .configuration .object-count) (left (ltb h (s .configuration .object-count)) (not (o .receiving)) sending) in
-          facts-valid L F _
-          (set-mailbox-valid L F s facts h sent-mailbox l
-          (both (both (pending-facts (o .receiving) (is-started (controller-of L F s h)) m (own-mailbox s facts h l) (left (m .tx-pending) (not (m .tx-done)) unsent)) refl) refl))
+    -- an arrival that is stored
+    pub filled-kept : (c h : ℕ) (accepts : ℕ → Bool) (rank : ℕ → ℕ) → events.best-object core c accepts rank false ≡ some h → CoreKept L core (filled core h)
+    unfolding events.best-object
+    filled-kept c h accepts rank e =
+        let o = owner-at (core .owners) h in
+        let chosen = chosen-fits (core .object-count) _ _ h e in
+        let fits = left (fits-frame c o (accepts h)) _ (chosen .1) in
+        let receiving = left (o .receiving) (eqb (o .controller) c) (left (o .receiving && eqb (o .controller) c) (accepts h) fits) in
+        changed core (core .controllers) _ (set-mailbox-valid L core facts h filled-mailbox (chosen .0) receiving)
 
-  pub bus-off-detected-stays-valid : (s : State F) (ram : List ℕ) (c : ℕ) → valid L F s ≡ true → valid L F (bus-off-detected L F s ram c .state) ≡ true
-  unfolding bus-off-detected reasons-named
-  bus-off-detected-stays-valid s ram c v =
-      judged-either F (λ (o : Outcome F). valid L F (o .state) ≡ true) (first-reason (state-gate L F s ++ on-bus-checks L F s c)) _ _ v next
-    where
-      next : first-reason (state-gate L F s ++ on-bus-checks L F s c) ≡ 0
-          → valid L F (with-controllers L F s (set (s .controllers) c (marked-bus-off (controller-at (s .controllers) c)))) ≡ true
-      next r =
-          let k = controller-at (s .controllers) c in
-          let checks = state-gate L F s ++ on-bus-checks L F s c in
-          let facts = valid-facts L F s v in
-          let l = ltb-true c (s .configuration .controller-count) (not-false (in-use L F s c) (check-passed 2 checks refl r)) in
-          let started = not-false (is-started k) (check-passed 3 checks refl r) in
-          let rest = leb STARTED (k .mode) && leb (k .mode) SLEEP && (eqb (k .requested-mode) 0 || permitted (k .mode) (k .requested-mode)) in
-          facts-valid L F _
-          (same-mode-valid s facts c (marked-bus-off k) l (both (left rest (not (k .bus-off) || is-started k) (own-controller s facts c l)) started) refl)
+    -- a poll over the objects
+    pub objects-polled-kept : (visit : Visit) → Kept (objects-polled gate visit core ram)
+    objects-polled-kept visit =
+        judged-either Kept gate _ _ (same-core core v) (λ r. changed core (core .controllers) _ (sweep-valid L core facts visit (core .object-count)))
 
-  pub frame-arrived-stays-valid : (s : State F) (sheet : ℕ) (ram : List ℕ) (c : ℕ) (frame : F .Frame) → valid L F s ≡ true → valid L F (frame-arrived L F s sheet ram c frame .state) ≡ true
-  unfolding frame-arrived best-object
-  frame-arrived-stays-valid s sheet ram c frame v =
-      judged-either F (λ (o : Outcome F). valid L F (o .state) ≡ true) _ _ _ v (λ r. arrival (best-object L F s c frame false) refl)
-    where
-      no-change : (o : Option ℕ) → valid L F (not-stored L F s ram o .state) ≡ true
-      no-change none = v
-      no-change (some h) = v
+  -- a controller's turn in a sweep over the controllers: it enters a valid state, and if it ceases to be STARTED it leaves the bus
+  pub record Sound (t : Turn) : Type 0 where
+    pub enters : (k : Controller) → controller-valid k ≡ true → t .due k ≡ true → controller-valid (t .entered k) ≡ true
+    pub stays-on : (k : Controller) → t .leaves k ≡ false → is-started k ≡ true → is-started (t .entered k) ≡ true
 
-      filled : (h : ℕ) → best-object L F s c frame false ≡ some h → valid L F (with-mailboxes L F s (set (s .mailboxes) h filled-mailbox)) ≡ true
-      filled h e =
-          let o = object-at L F (s .configuration) h in
-          let chosen = chosen-fits (s .configuration .object-count) _ _ h e in
-          let fits = left (fits-frame L F c frame o) _ (chosen .1) in
-          let receiving = left (o .receiving) (eqb (o .controller) c) (left (o .receiving && eqb (o .controller) c) (F .accepts (o .settings) frame) fits) in
-          facts-valid L F _ (set-mailbox-valid L F s (valid-facts L F s v) h filled-mailbox (chosen .0) receiving)
-
-      arrival : (o : Option ℕ) → best-object L F s c frame false ≡ o → valid L F (received L F s ram c frame o .state) ≡ true
-      arrival none e = no-change (best-object L F s c frame true)
-      arrival (some h) e = filled h e
-
-  -- Polls
-
-  pub main-function-write-stays-valid : (s : State F) (sheet : ℕ) (ram : List ℕ) → valid L F s ≡ true → valid L F (main-function-write L F s sheet ram .state) ≡ true
-  unfolding main-function-write confirmed
-  main-function-write-stays-valid s sheet ram v =
-      judged-either F (λ (o : Outcome F). valid L F (o .state) ≡ true) _ _ _ v
-      (λ r. facts-valid L F _ (sweep-valid L F s (valid-facts L F s v) (λ h m. m .tx-done) (confirm-one L F ram) (confirm-step L F ram) (s .configuration .object-count) (boxes-of L F s) refl))
-
-  pub main-function-read-stays-valid : (s : State F) (sheet : ℕ) (ram : List ℕ) → valid L F s ≡ true → valid L F (main-function-read L F s sheet ram .state) ≡ true
-  unfolding main-function-read indicated
-  main-function-read-stays-valid s sheet ram v =
-      judged-either F (λ (o : Outcome F). valid L F (o .state) ≡ true) _ _ _ v
-      (λ r. facts-valid L F _ (sweep-valid L F s (valid-facts L F s v) (λ h m. m .rx-full) (indicate-one L F ram) (indicate-step L F ram) (s .configuration .object-count) (boxes-of L F s) refl))
-
-  -- a controller's step in a sweep over the controllers
-  module _ (s : State F) (ram : List ℕ) (c : ℕ) (w : Sweep) (v : Valid L F (after-sweep L F s w)) (l : c < s .configuration .controller-count) where
+  module _ (size : ℕ) (t : Turn) (sound : Sound t) (core : Core) (ram : List ℕ) (c : ℕ) (w : Sweep) (v : Valid L (after-sweep core w)) (l : c < core .controller-count) where
     abbrev control : Controller
     control = controller-at (w .controllers) c
 
     abbrev receiving-at : ℕ → Bool
-    receiving-at h = object-at L F (s .configuration) h .receiving
+    receiving-at h = owner-at (core .owners) h .receiving
 
-    -- an object of the controller suits it before its step
-    suits : (h : ℕ) → h < s .configuration .object-count → object-at L F (s .configuration) h .controller ≡ c → mailbox-valid (receiving-at h) (is-started control) (mailbox-at (w .boxes .mailboxes) h) ≡ true
-    suits h lh e = rw e at (own-mailbox (after-sweep L F s w) v h lh)
+    -- an object of the controller suits it before its turn
+    suits : (h : ℕ) → h < core .object-count → owner-at (core .owners) h .controller ≡ c → mailbox-valid (receiving-at h) (is-started control) (mailbox-at (w .boxes .mailboxes) h) ≡ true
+    suits h lh e = rw e at (own-mailbox (after-sweep core w) v h lh)
 
-    -- nothing is cancelled where the controller does not leave STARTED
-    nothing-left : (h : ℕ) → h < s .configuration .object-count → object-at L F (s .configuration) h .controller ≡ c → leaves-started control ≡ false
-        → mailbox-valid (receiving-at h) (is-started (entering-request control)) (mailbox-at (w .boxes .mailboxes) h) ≡ true
-    nothing-left h lh e t = go (decide (is-started control))
+    -- nothing is cancelled where the controller does not leave the bus
+    nothing-left : (h : ℕ) → h < core .object-count → owner-at (core .owners) h .controller ≡ c → t .leaves control ≡ false
+        → mailbox-valid (receiving-at h) (is-started (t .entered control)) (mailbox-at (w .boxes .mailboxes) h) ≡ true
+    nothing-left h lh e stays = go (decide (is-started control))
       where
-        go : (is-started control ≡ true) ⊎ (is-started control ≡ false) → mailbox-valid (receiving-at h) (is-started (entering-request control)) (mailbox-at (w .boxes .mailboxes) h) ≡ true
-        go (inl st) = rw (not-false (eqb (control .requested-mode) STARTED) (rw st at t)) (rw st at (suits h lh e))
+        go : (is-started control ≡ true) ⊎ (is-started control ≡ false) → mailbox-valid (receiving-at h) (is-started (t .entered control)) (mailbox-at (w .boxes .mailboxes) h) ≡ true
+        go (inl st) = rw (sound .stays-on control stays st) (rw st at (suits h lh e))
         go (inr st) =
             let m = mailbox-at (w .boxes .mailboxes) h in
             let sv : mailbox-valid (receiving-at h) false m ≡ true = rw st at (suits h lh e) in
-            not-pending (receiving-at h) false (is-started (entering-request control)) m sv (pending-needs-started (receiving-at h) m sv)
+            not-pending (receiving-at h) false (is-started (t .entered control)) m sv (pending-needs-started (receiving-at h) m sv)
 
-    entered-valid : takes-request control ≡ true → controller-valid (entering-request control) ≡ true
-    entered-valid t =
-        let unmarked = not-true (control .bus-off) (left (not (control .bus-off)) (not (eqb (control .requested-mode) 0)) t) in
-        both (both (permitted-mode (control .mode) (control .requested-mode) (waiting-permitted control (own-controller (after-sweep L F s w) v c l) t)) refl) (rw unmarked)
-
-    mode-changed : takes-request control ≡ true → Valid L F (after-sweep L F s (change-mode L F (s .configuration) ram c control w))
-    mode-changed t =
-        let cfg = s .configuration in
-        let cancelled = cancel-all L F cfg ram c (w .boxes) in
-        set-controller-valid L F (after-sweep L F s w) v c (entering-request control) (cond (leaves-started control) cancelled (w .boxes) .mailboxes) l (entered-valid t)
-        (cond-both (λ (b : Boxes). length (b .mailboxes) ≡ L .objects) (leaves-started control) cancelled (w .boxes)
-        (λ g. cancelled-length L F ram cfg c (w .boxes) ∙ v .mailbox-places)
+    turned : t .due control ≡ true → Valid L (after-sweep core (record { controllers = set (w .controllers) c (t .entered control); boxes = cond (t .leaves control) (visit-all (cancellation size (core .owners) ram c) (core .object-count) (w .boxes)) (w .boxes) }))
+    turned due =
+        let cancelled = visit-all (cancellation size (core .owners) ram c) (core .object-count) (w .boxes) in
+        set-controller-valid L (after-sweep core w) v c (t .entered control) (cond (t .leaves control) cancelled (w .boxes) .mailboxes) l
+        (sound .enters control (own-controller (after-sweep core w) v c l) due)
+        (cond-both (λ (b : Boxes). length (b .mailboxes) ≡ L .objects) (t .leaves control) cancelled (w .boxes)
+        (λ g. boxes-length (cancellation size (core .owners) ram c) (w .boxes) (core .object-count) ∙ v .mailbox-places)
         (λ g. v .mailbox-places))
-        (λ h lh e. cond-both (λ (b : Boxes). mailbox-valid (receiving-at h) (is-started (entering-request control)) (mailbox-at (b .mailboxes) h) ≡ true) (leaves-started control) cancelled (w .boxes)
-        (λ g. cancelled-own L F ram cfg c (w .boxes) h lh e (receiving-at h) (is-started control) (is-started (entering-request control)) (suits h lh e))
+        (λ h lh e. cond-both (λ (b : Boxes). mailbox-valid (receiving-at h) (is-started (t .entered control)) (mailbox-at (b .mailboxes) h) ≡ true) (t .leaves control) cancelled (w .boxes)
+        (λ g. cancelled-own size (core .owners) (core .object-count) ram c (w .boxes) h lh e (receiving-at h) (is-started control) (is-started (t .entered control)) (suits h lh e))
         (λ g. nothing-left h lh e g))
-        (λ h other. cond-both (λ (b : Boxes). mailbox-at (b .mailboxes) h ≡ mailbox-at (w .boxes .mailboxes) h) (leaves-started control) cancelled (w .boxes)
-        (λ g. cancelled-others L F ram cfg c (w .boxes) h other)
+        (λ h other. cond-both (λ (b : Boxes). mailbox-at (b .mailboxes) h ≡ mailbox-at (w .boxes .mailboxes) h) (t .leaves control) cancelled (w .boxes)
+        (λ g. cancelled-others size (core .owners) (core .object-count) ram c (w .boxes) h other)
         (λ g. refl))
 
-    bus-left : Valid L F (after-sweep L F s (go-bus-off L F (s .configuration) ram c w))
-    bus-left =
-        let cfg = s .configuration in
-        set-controller-valid L F (after-sweep L F s w) v c (entering-bus-off control) (cancel-all L F cfg ram c (w .boxes) .mailboxes) l refl
-        (cancelled-length L F ram cfg c (w .boxes) ∙ v .mailbox-places)
-        (λ h lh e. cancelled-own L F ram cfg c (w .boxes) h lh e (receiving-at h) (is-started control) (is-started (entering-bus-off control)) (suits h lh e))
-        (λ h other. cancelled-others L F ram cfg c (w .boxes) h other)
+  -- a poll over the controllers
+  pub controllers-polled-kept : (size : ℕ) (t : Turn) → Sound t → (gate : ℕ) (core : Core) (ram : List ℕ) → core-valid L core ≡ true → CoreKept L core (controllers-polled gate size t core ram .state)
+  unfolding turn-all
+  controllers-polled-kept size t sound gate core ram v =
+      judged-either (λ (o : Outcome Core). CoreKept L core (o .state)) gate _ _ (same-core core v)
+      (λ r. record { stays = facts-core L _ swept; count-kept = refl; owners-kept = refl })
+    where
+      swept : Valid L (after-sweep core (rising (core .controller-count) (turn-one size t core ram) (sweep-of core)))
+      swept =
+          rising-keeps (λ (w : Sweep). Valid L (after-sweep core w)) (turn-one size t core ram) (core .controller-count)
+          (λ c l w vw. cond-both (λ (x : Sweep). Valid L (after-sweep core x)) (t .due (controller-at (w .controllers) c)) _ w (λ due. turned size t sound core ram c w vw l due) (λ due. vw))
+          (sweep-of core) (core-facts L core v)
 
-  pub main-function-mode-stays-valid : (s : State F) (sheet : ℕ) (ram : List ℕ) → valid L F s ≡ true → valid L F (main-function-mode L F s sheet ram .state) ≡ true
-  unfolding main-function-mode modes-changed
-  main-function-mode-stays-valid s sheet ram v =
-      judged-either F (λ (o : Outcome F). valid L F (o .state) ≡ true) _ _ _ v
-      (λ r. facts-valid L F _
-      (rising-keeps (λ (w : Sweep). Valid L F (after-sweep L F s w)) (mode-one L F (s .configuration) ram) (s .configuration .controller-count)
-      (λ c l w vw. cond-both (λ (x : Sweep). Valid L F (after-sweep L F s x)) (takes-request (controller-at (w .controllers) c)) _ w (λ t. mode-changed s ram c w vw l t) (λ t. vw))
-      (sweep-of L F s) (valid-facts L F s v)))
+  pub mode-change-sound : Sound mode-change
+  mode-change-sound =
+      record {
+        enters = λ k kv due.
+            let unmarked = not-true (k .bus-off) (left (not (k .bus-off)) (not (eqb (k .requested-mode) 0)) due) in
+            both (both (permitted-mode (k .mode) (k .requested-mode) (waiting-permitted k kv due)) refl) (rw unmarked);
+        stays-on = λ k stays st. not-false (eqb (k .requested-mode) STARTED) (rw st at stays);
+      }
 
-  pub main-function-bus-off-stays-valid : (s : State F) (sheet : ℕ) (ram : List ℕ) → valid L F s ≡ true → valid L F (main-function-bus-off L F s sheet ram .state) ≡ true
-  unfolding main-function-bus-off buses-off
-  main-function-bus-off-stays-valid s sheet ram v =
-      judged-either F (λ (o : Outcome F). valid L F (o .state) ≡ true) _ _ _ v
-      (λ r. facts-valid L F _
-      (rising-keeps (λ (w : Sweep). Valid L F (after-sweep L F s w)) (bus-off-one L F (s .configuration) ram) (s .configuration .controller-count)
-      (λ c l w vw. cond-both (λ (x : Sweep). Valid L F (after-sweep L F s x)) (controller-at (w .controllers) c .bus-off) _ w (λ t. bus-left s ram c w vw l) (λ t. vw))
-      (sweep-of L F s) (valid-facts L F s v)))
+  pub going-off-sound : Sound going-off
+  going-off-sound = record { enters = λ k kv due. refl; stays-on = λ k stays st. clash refl stays }
+
+  pub initial-core-valid : core-valid L (initial-core L) ≡ true
+  initial-core-valid =
+      facts-core L (initial-core L)
+      (record {
+        controller-places = length-replicate (L .controllers) idle-controller;
+        owner-places = length-replicate (L .objects) unused-owner;
+        mailbox-places = length-replicate (L .objects) empty-mailbox;
+        counts = refl;
+        owners = facts-all (L .objects) (owner-place-valid 0 0 (replicate (L .objects) unused-owner)) (λ h l. rw (leb·suc-zero h, getD-replicate (L .objects) h unused-owner unused-owner l));
+        controllers = λ c l. rw (leb·suc-zero c, getD-replicate (L .controllers) c idle-controller idle-controller l);
+        mailboxes = λ h l. rw (leb·suc-zero h, getD-replicate (L .objects) h empty-mailbox empty-mailbox l);
+      })
+
+  pub configured-core-valid : (controller-count object-count : ℕ) (owners : List Owner) → length owners ≡ L .objects → counts-valid L controller-count object-count ≡ true
+      → owners-valid L controller-count object-count owners ≡ true → core-valid L (configured-core L controller-count object-count owners) ≡ true
+  configured-core-valid controller-count object-count owners places counts valid =
+      facts-core L (configured-core L controller-count object-count owners)
+      (record {
+        controller-places = length-list-below (L .controllers) (λ k. cond (ltb k controller-count) stopped-controller idle-controller);
+        owner-places = places;
+        mailbox-places = length-replicate (L .objects) empty-mailbox;
+        counts = counts;
+        owners = valid;
+        controllers = λ c l. control c l (decide (ltb c controller-count));
+        mailboxes = λ h l. rw (getD-replicate (L .objects) h empty-mailbox empty-mailbox l) (empty-valid (ltb h object-count) false false);
+      })
+    where
+      control : (c : ℕ) → c < L .controllers → (ltb c controller-count ≡ true) ⊎ (ltb c controller-count ≡ false) → controller-place-valid (configured-core L controller-count object-count owners) c ≡ true
+      control c l (inl e) = rw (getD-list-below (L .controllers) (λ k. cond (ltb k controller-count) stopped-controller idle-controller) c idle-controller l, e)
+      control c l (inr e) = rw (getD-list-below (L .controllers) (λ k. cond (ltb k controller-count) stopped-controller idle-controller) c idle-controller l, e)
+
+-- The calls on the state
+
+module _ (L : Limits) (F : Format) where
+  pub initial-valid : Lawful L F → valid L F (initial-state L F) ≡ true
+  unfolding valid
+  initial-valid lawful =
+      let unused = replicate (L .objects) unused-owner in
+      let settings = replicate (L .objects) (F .unused-settings) in
+      both (both (initial-core-valid L) (eq-eqb _ _ (length-replicate (L .objects) (F .unused-settings))))
+      (facts-all (L .objects) (settings-place-valid F 0 unused settings) (λ h l. rw (leb·suc-zero h, getD-replicate (L .objects) h (F .unused-settings) (F .unused-settings) l) (lawful .unused)))
+
+  pub configured-valid : (bytes : List ℕ) → accepted-bytes L F bytes ≡ true → valid L F (configured-state L F (configuration-of L F bytes)) ≡ true
+  unfolding accepted-bytes configuration-of valid
+  configured-valid bytes a =
+      let cfg = configuration-of L F bytes in
+      let counts = counts-valid L (cfg .controller-count) (cfg .object-count) in
+      let owners = owners-valid L (cfg .controller-count) (cfg .object-count) (cfg .owners) in
+      let suits = all-settings-valid L F (cfg .object-count) (cfg .owners) (cfg .settings) in
+      let cv = right (header-valid L F bytes && size-valid L F bytes && all-below (objects-byte bytes) (kind-valid L F bytes)) (configuration-valid L F cfg) a in
+      both
+      (both
+      (configured-core-valid L (cfg .controller-count) (cfg .object-count) (cfg .owners) (length-list-below (L .objects) _) (left counts owners (left (counts && owners) suits cv)) (right counts owners (left (counts && owners) suits cv)))
+      (eq-eqb _ _ (length-list-below (L .objects) _)))
+      (right (counts && owners) suits cv)
+
+  module _ (s : State F) (sheet : ℕ) (ram : List ℕ) (v : valid L F s ≡ true) where
+    own : core-valid L (s .core) ≡ true
+    own = state-core L F s v
+
+    abbrev Stays : Outcome (State F) → Type 0
+    Stays o = valid L F (o .state) ≡ true
+
+    pub init-stays-valid : (bytes : List ℕ) → Stays (init L F s sheet ram bytes)
+    unfolding init reasons-named
+    init-stays-valid bytes =
+        judged-either Stays (full-gate L F s sheet ram then first-reason (init-checks L F s bytes)) _ _ v
+        (λ r. configured-valid bytes (not-false (accepted-bytes L F bytes) (check-passed 1 (init-checks L F s bytes) refl (then-second (full-gate L F s sheet ram) (first-reason (init-checks L F s bytes)) r))))
+
+    pub deinit-stays-valid : Lawful L F → Stays (deinit L F s sheet ram)
+    unfolding deinit
+    deinit-stays-valid lawful = judged-either Stays _ _ _ v (λ r. initial-valid lawful)
+
+    pub set-controller-mode-stays-valid : (c asked : ℕ) → Stays (set-controller-mode L F s sheet ram c asked)
+    unfolding set-controller-mode
+    set-controller-mode-stays-valid c asked = core-stays L F s _ (set-controller-mode-kept L (sheet-gate L F s sheet) (s .core) ram own c asked) v
+
+    pub get-controller-mode-stays-valid : (c : ℕ) → Stays (get-controller-mode L F s sheet ram c)
+    unfolding get-controller-mode
+    get-controller-mode-stays-valid c = core-stays L F s _ (get-controller-mode-kept L (sheet-gate L F s sheet) (s .core) ram own c) v
+
+    pub write-stays-valid : (h handle : ℕ) (frame : F .Frame) → Stays (write L F s sheet ram h handle frame)
+    unfolding write
+    write-stays-valid h handle frame =
+        judged-either Stays (full-gate L F s sheet ram then write-reason (s .core) h (frame-reason L F s h frame)) _ _ v
+        (λ r. core-stays L F s _
+        (taken-kept L 0 (s .core) ram own h (frame-reason L F s h frame) (then-second (full-gate L F s sheet ram) (write-reason (s .core) h (frame-reason L F s h frame)) r)) v)
+
+    pub main-function-write-stays-valid : Stays (main-function-write L F s sheet ram)
+    unfolding main-function-write polls.main-function-write
+    main-function-write-stays-valid = core-stays L F s _ (objects-polled-kept L (full-gate L F s sheet ram) (s .core) ram own _) v
+
+    pub main-function-read-stays-valid : Stays (main-function-read L F s sheet ram)
+    unfolding main-function-read polls.main-function-read
+    main-function-read-stays-valid = core-stays L F s _ (objects-polled-kept L (full-gate L F s sheet ram) (s .core) ram own _) v
+
+    pub main-function-mode-stays-valid : Stays (main-function-mode L F s sheet ram)
+    unfolding main-function-mode polls.main-function-mode
+    main-function-mode-stays-valid = core-stays L F s _ (controllers-polled-kept L (L .object-size) mode-change (mode-change-sound L) (full-gate L F s sheet ram) (s .core) ram own) v
+
+    pub main-function-bus-off-stays-valid : Stays (main-function-bus-off L F s sheet ram)
+    unfolding main-function-bus-off polls.main-function-bus-off
+    main-function-bus-off-stays-valid = core-stays L F s _ (controllers-polled-kept L (L .object-size) going-off (going-off-sound L) (full-gate L F s sheet ram) (s .core) ram own) v
+
+    pub tx-complete-stays-valid : (h : ℕ) → Stays (tx-complete L F s ram h)
+    unfolding tx-complete
+    tx-complete-stays-valid h = core-stays L F s _ (tx-complete-kept L (state-gate L F s) (s .core) ram own h) v
+
+    pub bus-off-detected-stays-valid : (c : ℕ) → Stays (bus-off-detected L F s ram c)
+    unfolding bus-off-detected
+    bus-off-detected-stays-valid c = core-stays L F s _ (bus-off-detected-kept L (state-gate L F s) (s .core) ram own c) v
+
+    pub frame-arrived-stays-valid : (c : ℕ) (frame : F .Frame) → Stays (frame-arrived L F s sheet ram c frame)
+    unfolding frame-arrived
+    frame-arrived-stays-valid c frame = judged-either Stays _ _ _ v (λ r. arrival (best-object L F s c frame false) refl)
+      where
+        no-change : (o : Option ℕ) → Stays (not-stored L F s ram o)
+        no-change none = v
+        no-change (some h) = v
+
+        arrival : (o : Option ℕ) → best-object L F s c frame false ≡ o → Stays (received L F s ram c frame o)
+        arrival none e = no-change (best-object L F s c frame true)
+        arrival (some h) e = core-stays L F s _ (filled-kept L 0 (s .core) ram own c h _ _ e) v

@@ -10,8 +10,8 @@ use native.Mathlib.Nat.{le-refl}
 use lib.ListN.{length, set, getD, length-set, List·getD-eq-default}
 use lib.Seq.{getD-set-same, getD-set-other}
 use Rattle.rules.specs.Repeat.{rising}
-use Rattle.rules.specs.Polls.{Boxes}
-use Rattle.rules.specs.State.{Mailbox, empty-mailbox, mailbox-at}
+use Rattle.rules.specs.Polls.{Boxes, Visit, visit-one, visit-all}
+use Rattle.rules.specs.Core.{Mailbox, empty-mailbox, mailbox-at}
 use Rattle.laws.proofs.Tests.{cond-map, cond-both}
 use Rattle.laws.proofs.Repeat.{last-or-below}
 
@@ -77,15 +77,20 @@ module _ (W A : Type 0) (items : W → List A) (d : A) (test : ℕ → A → Boo
 abbrev pub freed : Bool → Mailbox → Mailbox
 freed t m = cond t empty-mailbox m
 
-module _ (test : ℕ → Mailbox → Bool) (f : ℕ → Boxes → Boxes)
-    (visit : (h : ℕ) (b : Boxes) → f h b .mailboxes ≡ cond (test h (mailbox-at (b .mailboxes) h)) (set (b .mailboxes) h empty-mailbox) (b .mailboxes))
-    (b : Boxes) where
-  pub boxes-length : (n : ℕ) → length (rising n f b .mailboxes) ≡ length (b .mailboxes)
-  boxes-length n = sweep-length Boxes Mailbox (λ x. x .mailboxes) empty-mailbox test (λ m. empty-mailbox) f visit b n
+-- one object's visit, seen at the mailboxes
+pub visit-step : (v : Visit) (h : ℕ) (b : Boxes) → visit-one v h b .mailboxes ≡ cond (v .due h (mailbox-at (b .mailboxes) h)) (set (b .mailboxes) h empty-mailbox) (b .mailboxes)
+visit-step v h b = cond-map (λ (x : Boxes). x .mailboxes) (v .due h (mailbox-at (b .mailboxes) h)) _ b
 
-  pub boxes-above : (n h : ℕ) → n ≤ h → mailbox-at (rising n f b .mailboxes) h ≡ mailbox-at (b .mailboxes) h
-  boxes-above n h k = sweep-above Boxes Mailbox (λ x. x .mailboxes) empty-mailbox test (λ m. empty-mailbox) f visit b n h k
+module _ (v : Visit) (b : Boxes) where
+  pub boxes-length : (n : ℕ) → length (visit-all v n b .mailboxes) ≡ length (b .mailboxes)
+  unfolding visit-all
+  boxes-length n = sweep-length Boxes Mailbox (λ x. x .mailboxes) empty-mailbox (v .due) (λ m. empty-mailbox) (visit-one v) (visit-step v) b n
 
-  pub boxes-below : (n h : ℕ) → h < n → mailbox-at (rising n f b .mailboxes) h ≡ freed (test h (mailbox-at (b .mailboxes) h)) (mailbox-at (b .mailboxes) h)
+  pub boxes-above : (n h : ℕ) → n ≤ h → mailbox-at (visit-all v n b .mailboxes) h ≡ mailbox-at (b .mailboxes) h
+  unfolding visit-all
+  boxes-above n h k = sweep-above Boxes Mailbox (λ x. x .mailboxes) empty-mailbox (v .due) (λ m. empty-mailbox) (visit-one v) (visit-step v) b n h k
+
+  pub boxes-below : (n h : ℕ) → h < n → mailbox-at (visit-all v n b .mailboxes) h ≡ freed (v .due h (mailbox-at (b .mailboxes) h)) (mailbox-at (b .mailboxes) h)
+  unfolding visit-all
   boxes-below n h k =
-      sweep-below Boxes Mailbox (λ x. x .mailboxes) empty-mailbox test (λ m. empty-mailbox) f visit b n (λ i l inside long. set-default l i empty-mailbox) n h (le-refl n) k
+      sweep-below Boxes Mailbox (λ x. x .mailboxes) empty-mailbox (v .due) (λ m. empty-mailbox) (visit-one v) (visit-step v) b n (λ i l inside long. set-default l i empty-mailbox) n h (le-refl n) k

@@ -1,4 +1,4 @@
--- A valid state as facts, and back.
+-- A valid core and a valid state as facts, and back.
 use Prim.Native.Nat.{ℕ, _<_}
 use mathlib.Core.Path.{_≡_, refl}
 use mathlib.Core.Bool.{Bool, true, cond, _&&_}
@@ -8,66 +8,88 @@ use borrow.Author.Tests.{eqb-true, eq-eqb}
 use Rattle.rules.specs.Limits.{Limits}
 use Rattle.rules.specs.Format.{Format}
 use Rattle.rules.specs.Repeat.{all-below}
-use Rattle.rules.specs.Configuration.{counts-valid, object-places-valid}
-use Rattle.rules.specs.State.{State, valid, has-places, nothing-in-use, controller-place-valid, mailbox-place-valid}
+use Rattle.rules.specs.Core.{Owner, Core, core-valid, has-places, counts-valid, nothing-in-use, owners-valid, controller-place-valid, mailbox-place-valid}
+use Rattle.rules.specs.Configuration.{all-settings-valid}
+use Rattle.rules.specs.State.{State, with-core, valid}
 use Rattle.laws.proofs.Tests.{both, left, right}
 use Rattle.laws.proofs.Repeat.{all-facts, facts-all}
 
-pub record Valid (L : Limits) (F : Format) (s : State F) : Type 0 where
-  pub controller-places : length (s .controllers) ≡ L .controllers
-  pub object-places : length (s .configuration .objects) ≡ L .objects
-  pub mailbox-places : length (s .mailboxes) ≡ L .objects
-  pub counts : cond (s .initialised) (counts-valid L F (s .configuration)) (nothing-in-use L F (s .configuration)) ≡ true
-  pub objects : object-places-valid L F (s .configuration) ≡ true
-  pub controllers : (c : ℕ) → c < L .controllers → controller-place-valid L F s c ≡ true
-  pub mailboxes : (h : ℕ) → h < L .objects → mailbox-place-valid L F s h ≡ true
+pub record Valid (L : Limits) (core : Core) : Type 0 where
+  pub controller-places : length (core .controllers) ≡ L .controllers
+  pub owner-places : length (core .owners) ≡ L .objects
+  pub mailbox-places : length (core .mailboxes) ≡ L .objects
+  pub counts : cond (core .initialised) (counts-valid L (core .controller-count) (core .object-count)) (nothing-in-use core) ≡ true
+  pub owners : owners-valid L (core .controller-count) (core .object-count) (core .owners) ≡ true
+  pub controllers : (c : ℕ) → c < L .controllers → controller-place-valid core c ≡ true
+  pub mailboxes : (h : ℕ) → h < L .objects → mailbox-place-valid core h ≡ true
 
-module _ (L : Limits) (F : Format) (s : State F) where
+module _ (L : Limits) (core : Core) where
   P₁ : Bool
-  P₁ = has-places L F s
+  P₁ = has-places L core
 
   P₂ : Bool
-  P₂ = P₁ && cond (s .initialised) (counts-valid L F (s .configuration)) (nothing-in-use L F (s .configuration))
+  P₂ = P₁ && cond (core .initialised) (counts-valid L (core .controller-count) (core .object-count)) (nothing-in-use core)
 
   P₃ : Bool
-  P₃ = P₂ && object-places-valid L F (s .configuration)
+  P₃ = P₂ && owners-valid L (core .controller-count) (core .object-count) (core .owners)
 
   P₄ : Bool
-  P₄ = P₃ && all-below (L .controllers) (controller-place-valid L F s)
+  P₄ = P₃ && all-below (L .controllers) (controller-place-valid core)
 
-  pub valid-facts : valid L F s ≡ true → Valid L F s
-  unfolding valid P₁ P₂ P₃ P₄
-  valid-facts v =
-      let boxes = all-below (L .objects) (mailbox-place-valid L F s) in
-      let controls = all-below (L .controllers) (controller-place-valid L F s) in
-      let configs = object-places-valid L F (s .configuration) in
-      let counts = cond (s .initialised) (counts-valid L F (s .configuration)) (nothing-in-use L F (s .configuration)) in
-      let c = eqb (length (s .controllers)) (L .controllers) in
-      let o = eqb (length (s .configuration .objects)) (L .objects) in
-      let m = eqb (length (s .mailboxes)) (L .objects) in
+  pub core-facts : core-valid L core ≡ true → Valid L core
+  unfolding core-valid P₁ P₂ P₃ P₄
+  core-facts v =
+      let boxes = all-below (L .objects) (mailbox-place-valid core) in
+      let controls = all-below (L .controllers) (controller-place-valid core) in
+      let configs = owners-valid L (core .controller-count) (core .object-count) (core .owners) in
+      let counts = cond (core .initialised) (counts-valid L (core .controller-count) (core .object-count)) (nothing-in-use core) in
+      let c = eqb (length (core .controllers)) (L .controllers) in
+      let o = eqb (length (core .owners)) (L .objects) in
+      let m = eqb (length (core .mailboxes)) (L .objects) in
       let v₄ = left P₄ boxes v in
       let v₃ = left P₃ controls v₄ in
       let v₂ = left P₂ configs v₃ in
       let v₁ = left P₁ counts v₂ in
       record {
-        controller-places = eqb-true (length (s .controllers)) (L .controllers) (left c o (left (c && o) m v₁));
-        object-places = eqb-true (length (s .configuration .objects)) (L .objects) (right c o (left (c && o) m v₁));
-        mailbox-places = eqb-true (length (s .mailboxes)) (L .objects) (right (c && o) m v₁);
+        controller-places = eqb-true (length (core .controllers)) (L .controllers) (left c o (left (c && o) m v₁));
+        owner-places = eqb-true (length (core .owners)) (L .objects) (right c o (left (c && o) m v₁));
+        mailbox-places = eqb-true (length (core .mailboxes)) (L .objects) (right (c && o) m v₁);
         counts = right P₁ counts v₂;
-        objects = right P₂ configs v₃;
-        controllers = all-facts (L .controllers) (controller-place-valid L F s) (right P₃ controls v₄);
-        mailboxes = all-facts (L .objects) (mailbox-place-valid L F s) (right P₄ boxes v);
+        owners = right P₂ configs v₃;
+        controllers = all-facts (L .controllers) (controller-place-valid core) (right P₃ controls v₄);
+        mailboxes = all-facts (L .objects) (mailbox-place-valid core) (right P₄ boxes v);
       }
 
-  pub facts-valid : Valid L F s → valid L F s ≡ true
-  unfolding valid
-  facts-valid v =
+  pub facts-core : Valid L core → core-valid L core ≡ true
+  unfolding core-valid
+  facts-core v =
       both
       (both
       (both
       (both
-      (both (both (eq-eqb _ _ (v .controller-places)) (eq-eqb _ _ (v .object-places))) (eq-eqb _ _ (v .mailbox-places)))
+      (both (both (eq-eqb _ _ (v .controller-places)) (eq-eqb _ _ (v .owner-places))) (eq-eqb _ _ (v .mailbox-places)))
       (v .counts))
-      (v .objects))
-      (facts-all (L .controllers) (controller-place-valid L F s) (v .controllers)))
-      (facts-all (L .objects) (mailbox-place-valid L F s) (v .mailboxes))
+      (v .owners))
+      (facts-all (L .controllers) (controller-place-valid core) (v .controllers)))
+      (facts-all (L .objects) (mailbox-place-valid core) (v .mailboxes))
+
+-- A call that looks at no frame leaves a valid core, and the owners as they were.
+pub record CoreKept (L : Limits) (before after : Core) : Type 0 where
+  pub stays : core-valid L after ≡ true
+  pub count-kept : after .object-count ≡ before .object-count
+  pub owners-kept : after .owners ≡ before .owners
+
+module _ (L : Limits) (F : Format) (s : State F) where
+  pub state-core : valid L F s ≡ true → core-valid L (s .core) ≡ true
+  unfolding valid
+  state-core v =
+      let suits = all-settings-valid L F (s .core .object-count) (s .core .owners) (s .settings) in
+      left (core-valid L (s .core)) (eqb (length (s .settings)) (L .objects)) (left (core-valid L (s .core) && eqb (length (s .settings)) (L .objects)) suits v)
+
+  pub core-stays : (next : Core) → CoreKept L (s .core) next → valid L F s ≡ true → valid L F (with-core s next) ≡ true
+  unfolding valid
+  core-stays next kept v =
+      let suits = all-settings-valid L F (s .core .object-count) (s .core .owners) (s .settings) in
+      let front = core-valid L (s .core) && eqb (length (s .settings)) (L .objects) in
+      both (both (kept .stays) (right (core-valid L (s .core)) (eqb (length (s .settings)) (L .objects)) (left front suits v)))
+      (rw (kept .count-kept, kept .owners-kept) (right front suits v))

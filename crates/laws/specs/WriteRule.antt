@@ -8,10 +8,10 @@ use mathlib.Core.Logic.{_↔_}
 use lib.ListN.{length}
 use Rattle.rules.specs.Limits.{Limits, sheet-size, ram-size}
 use Rattle.rules.specs.Format.{Format}
-use Rattle.rules.specs.Reason.{E-OK, first-reason}
-use Rattle.rules.specs.Configuration.{object-at}
-use Rattle.rules.specs.State.{State, valid, mailbox-at, is-started}
-use Rattle.rules.specs.Services.{is-sending, controller-of, write}
+use Rattle.rules.specs.Reason.{E-OK}
+use Rattle.rules.specs.Core.{mailbox-at, is-started, is-sending, controller-of}
+use Rattle.rules.specs.State.{State, valid}
+use Rattle.rules.specs.Calls.{frame-reason, settings-of-object, write}
 use Rattle.rules.specs.Can.{Frame, can-format, identifier-good, length-fits}
 
 -- what the demand asks of a write, for any kind of frame; the number is the sheet's length in words
@@ -22,13 +22,13 @@ pub record WriteFits (L : Limits) (F : Format) (s : State F) (sheet : ℕ) (ram 
   pub sheet-holds : sheet-size L ≤ sheet
   pub ram-whole : length ram ≡ ram-size L
   -- what the format finds in the frame: nothing
-  pub frame-fits : first-reason (F .write-checks (object-at L F (s .configuration) h .settings) frame) ≡ 0
+  pub frame-fits : frame-reason L F s h frame ≡ 0
   -- "sending object"
-  pub sending : is-sending L F s h ≡ true
+  pub sending : is-sending (s .core) h ≡ true
   -- "of a started controller"
-  pub started : is-started (controller-of L F s h) ≡ true
+  pub started : is-started (controller-of (s .core) h) ≡ true
   -- "free"
-  pub free : mailbox-at (s .mailboxes) h .tx-pending ≡ false
+  pub free : mailbox-at (s .core .mailboxes) h .tx-pending ≡ false
 
 -- the same for classic and FD frames, in the words of the demand
 pub record CanWriteFits (L : Limits) (s : State can-format) (sheet : ℕ) (ram : List ℕ) (h : ℕ) (frame : Frame) : Type 0 where
@@ -38,10 +38,10 @@ pub record CanWriteFits (L : Limits) (s : State can-format) (sheet : ℕ) (ram :
   -- "a good identifier"
   pub good-identifier : identifier-good (frame .identifier) ≡ true
   -- "a format and length its object can carry"
-  pub length-carried : length-fits (object-at L can-format (s .configuration) h .settings .payload) (frame .identifier) (length (frame .sdu)) ≡ true
-  pub sending : is-sending L can-format s h ≡ true
-  pub started : is-started (controller-of L can-format s h) ≡ true
-  pub free : mailbox-at (s .mailboxes) h .tx-pending ≡ false
+  pub length-carried : length-fits (settings-of-object L can-format s h .payload) (frame .identifier) (length (frame .sdu)) ≡ true
+  pub sending : is-sending (s .core) h ≡ true
+  pub started : is-started (controller-of (s .core) h) ≡ true
+  pub free : mailbox-at (s .core .mailboxes) h .tx-pending ≡ false
 
 -- ".. is accepted, and no other write is"
 abbrev pub WriteRule : Limits → Format → Type 0

@@ -7,7 +7,7 @@ use borrow.Author.Tests.{leb-true, not-false}
 use lib.Dec.{leb, eqb}
 use lib.ListN.{length}
 use Rattle.rules.specs.Format.{Lawful}
-use Rattle.rules.specs.Reason.{first-reason, reasons-named}
+use Rattle.rules.specs.Reason.{first-reason}
 use Rattle.rules.specs.Can.{Frame, Settings, longest-classic, longest-fd, length-fits, is-wire-length, write-checks, arrival-checks, is-fd, wire-length, can-format}
 use Rattle.rules.specs.Chip.{chip}
 use Rattle.laws.proofs.Tests.{left}
@@ -32,12 +32,9 @@ arrived-short f h =
     (not-false (is-wire-length (f .identifier) n) (head-passed _ _ refl (tail-passed _ _ refl h)))
 
 pub can-lawful : Lawful chip can-format
-unfolding reasons-named
 can-lawful =
     record {
       unused = refl;
-      write-reasons = λ s f. refl;
-      arrival-reasons = λ f. refl;
       written-fills = λ s handle f h. object-fills s handle f (written-short s f h);
       arrived-fills = λ s f h. object-fills s 0 f (arrived-short f h);
       handle-kept = handle-back;

@@ -1,25 +1,18 @@
--- What putting a notification and laying down an object leave where there is room for them.
+-- What laying down an object leaves where there is room for it.
 use Prim.Native.Nat.{ℕ, _+_, _≤_, _<_}
 use mathlib.Core.Path.{_≡_, _∙_}
 use mathlib.Core.Bool.{Bool, true}
-use mathlib.Core.List.{List, [], _∷_}
+use mathlib.Core.List.{List}
 use lib.ListN.{length}
 use borrow.Author.Tests.{le-leb}
 use Rattle.rules.specs.Limits.{object-start, ram-size}
 use Rattle.rules.specs.Bytes.{splice}
-use Rattle.rules.specs.Notification.{Notification, sheet-after}
 use Rattle.rules.specs.Can.{Frame, Settings, longest-fd, object-bytes}
 use Rattle.rules.specs.Chip.{chip}
 use Rattle.laws.proofs.Tests.{both}
 use Rattle.laws.proofs.Objects.{object-end}
-use Rattle.laws.proofs.Sheets.{all-words-one}
 use Rattle.layout.specs.Object.{LaidDown, has-room, padded-with}
-use Rattle.layout.specs.Sheet.{words-each, Put}
 use Rattle.layout.proofs.ObjectBytes.{padding-only}
-
--- a notification put first is the only one
-pub put-first : (n : Notification) {before after : List ℕ} {answer : Bool} → Put 0 n before after answer → words-each ≤ length before → after ≡ sheet-after (n ∷ []) before
-put-first n {before} put room = put .written ∙ rw (le-leb words-each (length before) room, all-words-one n)
 
 -- a whole memory has room for a frame in each object of the chip
 pub object-room : (h n : ℕ) (ram : List ℕ) → h < chip .objects → length ram ≡ ram-size chip → n ≤ longest-fd → has-room h (length ram) n ≡ true

@@ -1,3 +1,2 @@
 -- What the contracts of this crate say beyond the rules.
 pub mod Object
-pub mod Sheet

@@ -1,5 +1,3 @@
-// Bytes and words in lent memory: an object's bytes in the message RAM, and notifications on the sheet.
-pub mod bytes;
-pub mod notification;
+// The bytes of an object that hold a classic or an FD frame: how they are laid down, and what is read of them.
 pub mod object;
 pub mod read;

@@ -1,7 +1,8 @@
 // The bytes of an object: identifier word (4 bytes), wire length (1), DLC code (1), handle (2), data (64).
-use crate::bytes::fill;
-use crate::bytes::put_bytes;
 use chip::OBJECT_SIZE;
+use core_layout::bytes::fill;
+use core_layout::bytes::put_bytes;
+use core_layout::head::HEAD_SIZE;
 use frame::length::WireLength;
 use frame::length::on_wire;
 ghost use mathlib.Core.Path.{_≡_};
@@ -13,10 +14,7 @@ ghost use Rattle.rules.specs.Can.{longest-fd, object-bytes};
 ghost use Rattle.rules.specs.Chip as rules;
 ghost use Rattle.layout.specs.Object.{padded-with, has-room, LaidDown};
 
-// The bytes before an object's data.
-pub const HEAD_SIZE: usize = 8;
-
-// The bytes of its data: as many as the longest frame has.
+// The bytes of an object's data: as many as the longest frame has.
 pub const DATA_SIZE: usize = OBJECT_SIZE - HEAD_SIZE;
 
 // What stands before the data.

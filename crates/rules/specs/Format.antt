@@ -1,5 +1,5 @@
--- What a frame is. Modes, requests, polls and the bookkeeping of objects know a frame only by this record,
--- so that another kind of frame is another value of it.
+-- What a kind of frame is. The core knows nothing of it; validity, Init, Write and Arrived know a frame and its settings by this record
+-- alone, so that another kind of frame is another value of it.
 use Prim.Native.Nat.{ℕ, _<_, _^_}
 use mathlib.Core.Path.{_≡_}
 use mathlib.Core.Bool.{Bool, true}
@@ -7,7 +7,7 @@ use mathlib.Core.List.{List}
 use lib.ListN.{length}
 use Rattle.rules.specs.Limits.{Limits}
 use Rattle.rules.specs.Head.{handle-in}
-use Rattle.rules.specs.Reason.{Check, first-reason, reasons-named}
+use Rattle.rules.specs.Reason.{Check, first-reason}
 
 pub record Format : Type 1 where
   -- a frame that is written or arrives
@@ -33,12 +33,10 @@ pub record Format : Type 1 where
   -- the bytes that an object holds once a frame with this handle is laid down
   pub object-bytes : Settings → ℕ → Frame → List ℕ
 
--- What the laws ask of a format: unused settings are recognised, its reasons have numbers above 0, a frame that passes its checks
--- fills its object, and its handle can be read back.
+-- What the laws ask of a format: unused settings are recognised, a frame that passes its checks fills its object, and its handle can be
+-- read back.
 pub record Lawful (L : Limits) (F : Format) : Type 0 where
   pub unused : F .settings-unused (F .unused-settings) ≡ true
-  pub write-reasons : (s : F .Settings) (f : F .Frame) → reasons-named (F .write-checks s f) ≡ true
-  pub arrival-reasons : (f : F .Frame) → reasons-named (F .arrival-checks f) ≡ true
   pub written-fills : (s : F .Settings) (handle : ℕ) (f : F .Frame) → first-reason (F .write-checks s f) ≡ 0 → length (F .object-bytes s handle f) ≡ L .object-size
   pub arrived-fills : (s : F .Settings) (f : F .Frame) → first-reason (F .arrival-checks f) ≡ 0 → length (F .object-bytes s 0 f) ≡ L .object-size
   pub handle-kept : (s : F .Settings) (handle : ℕ) (f : F .Frame) → handle < 2 ^ 16 → handle-in (F .object-bytes s handle f) ≡ handle

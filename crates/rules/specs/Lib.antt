@@ -1,18 +1,24 @@
--- The rules, in the order of the paper. Each file names the section that it states.
+-- The rules. A file that states a section of 01 names it; the list at the end has the files in the order in which they build on each
+-- other.
+--
+-- Core is the part of the driver state that never sees a frame: who owns each object, and what waits where. Services, Polls and Events
+-- have the parts of the calls that look at no frame, on a core. Calls has the twelve calls themselves, on a driver state: a core, and what
+-- is configured of each object's frames. Each is written once, for any limits (Limits) and any kind of frame (Format). Can is 01's kind of
+-- frame, and Chip has the limits of this chip.
 --
 -- Identifiers are the field's terms. The glossary gives 01's word, the identifier for it here, and what to know beside; words that are
 -- the same in both are left out. Its groups are the sections of 01, with the files that state them.
 --
--- What the bench is made of; Records (Limits, Chip, State, Bytes, Notification)
+-- What the bench is made of; Records (Limits, Chip, Core, State, Bytes, Head, Notification)
 --   controller                   Controller                           its mode, request and mark; c is its number
---   hardware object, object      ObjectConfig, Mailbox                what is configured of it, and its flags; h is its number
---   sending, receiving; kind     receiving                            false, true
---   place                        controller-at, object-at, mailbox-at an entry of the state's lists, in use or not
---   driver state                 State
---   sound                        valid
+--   hardware object, object      Owner, Mailbox, Settings             its owner and kind, its flags, its frames' settings; h is its number
+--   sending, receiving; kind     receiving                            of an Owner: false, true
+--   place                        controller-at, owner-at, mailbox-at  an entry of the state's lists, in use or not; settings-at too
+--   driver state                 State                                a Core, and the settings of each object
+--   sound                        valid                                what of it looks at no frame is core-valid
 --   at rest, unused (controller) idle-controller                      everything zero, none or clear; the test is controller-idle
---   at rest, unused (object)     unused-object, empty-mailbox         the tests are object-unused and mailbox-empty
---   sound before initialisation  initial-state
+--   at rest, unused (object)     unused-owner, empty-mailbox          and unused-settings; tested by owner-unused and mailbox-empty
+--   sound before initialisation  initial-state                        its core is initial-core
 --   waiting request              requested-mode                       none is NO-REQUEST
 --   off-bus mark, marked         bus-off                              of a Controller
 --   occupied                     tx-pending                           written, and its closing notice is due; else it is free
@@ -24,40 +30,44 @@
 --   record, notice               Notification                         its four words are words; a call writes notification-limit at most
 --
 -- Configuration bytes (Configuration, Can)
---   record of 12 bytes           object-record                        of a configuration: no Notification; it says object-of
+--   record of 12 bytes           object-record                        of a configuration: no Notification; owner-of and settings-of read it
 --   controllers, objects n       controller-count, object-count       in the bytes controllers-byte and objects-byte
---   payload, padding value       payload, padding                     of Settings: what is configured of an object's frames
+--   payload, padding value       payload, padding                     of Settings
 --   filter code, filter mask     code, mask                           of Settings too
+--   one that Init accepts        configuration-valid                  once it is read: configuration-of
 --   bad configuration            not accepted-bytes
 --
--- Identifiers and lengths (Format, Can)
---   frame                        Frame                                an identifier word and data
+-- Identifiers and lengths (Format, Can, Events)
+--   frame                        Frame                                an identifier word and data; each Format has its own
 --   data                         sdu                                  AUTOSAR's service data unit; in an object object-data
 --   extended, FD, good           is-extended, is-fd, identifier-good  of an identifier word
 --   wire length, DLC code        wire-length, dlc-code                at which data of a length go out
---   fits a frame                 fits-frame                           receiving, the controllers agree, and filter-accepts
+--   fits a frame                 fits-frame                           receiving, the controllers agree, and accepts: here filter-accepts
 --
--- Modes; Services and polls (Mode, Services, Polls, Can)
+-- Modes; Services and polls (Mode, Services, Polls, Calls, Can)
 --   Init, DeInit, Write          init, deinit, write
 --   SetControllerMode, Set       set-controller-mode
 --   GetControllerMode, Get       get-controller-mode
 --   handle                       handle                               read back from an object's bytes by handle-in
---   write poll                   main-function-write
+--   write poll                   main-function-write                  visits every object in use, as a read poll does: visit-all
 --   read poll                    main-function-read
---   mode poll                    main-function-mode
+--   mode poll                    main-function-mode                   every controller in use has its turn, as in a bus-off poll: turn-all
 --   bus-off poll                 main-function-bus-off
 --   closing notice               closing-notification                 a confirmation or a cancellation
---   confirmed and freed          close by-sent                        its record is tx-confirmation
---   cancelled and freed          close by-stop                        its record is tx-cancellation; all of a controller: cancel-all
---   indicated and emptied        indicate-one                         its record is rx-indication, kind 2, received
+--   confirmed and freed          confirmation                         of the gone objects; its record is tx-confirmation
+--   indicated and emptied        indication                           of the full objects; its record is rx-indication, kind 2, received
+--   cancelled and freed          cancellation                         of a controller's occupied objects; its record is tx-cancellation
+--   carried out and cleared      mode-change                          of a controller with a request; what it is then: entering-request
+--   for each marked controller   going-off                            what a marked controller is then: entering-bus-off
 --   leaving STARTED, a stop      leaves-started
 --   mode record, bus-off record  mode-indication, bus-off-indication
+--   in rising order              rising                               over numbers below n, each step on what the last one left (Repeat)
 --   Data of an object            data-of
 --
--- Bench events (Events)
+-- Bench events (Events, Calls)
 --   Sent                         tx-complete                          an unsent frame is has-unsent
 --   Bus-off                      bus-off-detected
---   Arrived                      frame-arrived
+--   Arrived                      frame-arrived                        best-object is the one that fits best, the lowest among equals
 --   stored, unwanted, lost       stored-in, unwanted, lost            answers of an arrival; a write's answer is taken-by
 --   runtime error, data lost     data-lost
 --
@@ -65,9 +75,16 @@
 --   a no, a refusal              rejected
 --   accepted, returns 0          accepted, is-accepted                what such a call leaves; demand 3's test of a call
 --   return code                  code                                 return-code gives it by the reason
---   first that applies counts    first-reason                         of a list of Check, one for each reason
---   reasons from 32 up           SHEET-TOO-SHORT, .., INVALID-STATE   by number in Reason; 41, 32 and 33 are tested by the gates
+--   first that applies counts    first-reason                         of a list of Check, one for each reason; two in a row: _then_
+--   41, 32, 33                   state-gate, sheet-gate, full-gate    what comes before all other reasons, by what the call takes
+--   reasons from 32 up           SHEET-TOO-SHORT, .., INVALID-STATE   by number in Reason
 --   record of kind 5, none       service-report, no-report            the record is development-error
+--
+-- What 01 has no word for (State, Outcome, Polls, Services, Events)
+--   what a poll does at objects  Visit                                confirmation, indication, cancellation: when due, and what is told
+--   what it does at controllers  Turn                                 mode-change, going-off: when due, if it leaves the bus, what is told
+--   a call on the core           lifted                               makes it one on the state; the settings stay
+--   the state with a core        with-core                            with the core that has object h occupied (taken) or full (filled)
 --
 -- The words of demand 3 (crates/history/specs)
 --   the list                     List of Call                         history runs it; a Step is a call with its outcome
@@ -81,11 +98,13 @@ pub mod Notification
 pub mod Reason
 pub mod Mode
 pub mod Format
+pub mod Core
 pub mod Configuration
 pub mod State
 pub mod Outcome
 pub mod Services
 pub mod Polls
 pub mod Events
+pub mod Calls
 pub mod Can
 pub mod Chip

@@ -11,7 +11,7 @@ pub record Limits : Type 0 where
   -- bytes of an object's length
   pub length-size : ℕ
 
--- "mailbox memory": the message RAM has exactly so many bytes
+-- "Mailbox memory": the message RAM has exactly so many bytes
 abbrev pub ram-size : Limits → ℕ
 ram-size L = L .object-size * L .objects
 
@@ -19,7 +19,7 @@ ram-size L = L .object-size * L .objects
 abbrev pub notification-limit : Limits → ℕ
 notification-limit L = L .controllers + L .objects
 
--- "notice sheet": it must hold at least so many words, four to a notification
+-- "Notice sheet": it must hold at least so many words, four to a notification
 abbrev pub sheet-size : Limits → ℕ
 sheet-size L = 4 * notification-limit L
 

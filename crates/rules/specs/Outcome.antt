@@ -7,8 +7,9 @@ use lib.Dec.{eqb, ltb}
 use Rattle.rules.specs.Limits.{Limits, ram-size, sheet-size}
 use Rattle.rules.specs.Format.{Format}
 use Rattle.rules.specs.Notification.{Notification, development-error}
-use Rattle.rules.specs.Reason.{Check, _if_, E-OK, return-code, is-development-error, INVALID-STATE, SHEET-TOO-SHORT, WRONG-RAM-SIZE}
-use Rattle.rules.specs.State.{State, valid}
+use Rattle.rules.specs.Reason.{Check, _if_, E-OK, first-reason, return-code, is-development-error, INVALID-STATE, SHEET-TOO-SHORT, WRONG-RAM-SIZE}
+use Rattle.rules.specs.Core.{Core}
+use Rattle.rules.specs.State.{State, with-core, valid}
 
 -- what a call answers beside its return code and reason
 pub data Answer : Type 0 where
@@ -22,11 +23,12 @@ pub data Answer : Type 0 where
   unwanted : Answer
   lost : Answer
 
-pub record Outcome (F : Format) : Type 0 where
+-- S is the state, or the core of it
+pub record Outcome (S : Type 0) : Type 0 where
   pub code : ℕ
   pub reason : ℕ
   pub answer : Answer
-  pub state : State F
+  pub state : S
   pub ram : List ℕ
   pub notifications : List Notification
 
@@ -37,21 +39,26 @@ service-report service r = cond (is-development-error r) (development-error serv
 abbrev pub no-report : ℕ → List Notification
 no-report r = []
 
-module _ (F : Format) where
+module _ {S : Type 0} where
   -- "State and memory stay as they were."
-  abbrev pub rejected : (ℕ → List Notification) → Answer → State F → List ℕ → ℕ → Outcome F
+  abbrev pub rejected : (ℕ → List Notification) → Answer → S → List ℕ → ℕ → Outcome S
   rejected report answer s ram r =
       record { code = return-code r; reason = r; answer = answer; state = s; ram = ram; notifications = report r }
 
   -- a call that is accepted leaves this
-  abbrev pub accepted : Answer → State F → List ℕ → List Notification → Outcome F
+  abbrev pub accepted : Answer → S → List ℕ → List Notification → Outcome S
   accepted answer s ram notes = record { code = E-OK; reason = 0; answer = answer; state = s; ram = ram; notifications = notes }
 
   -- the reason decides: 0 accepts
-  unfoldable pub judged : ℕ → (ℕ → Outcome F) → Outcome F → Outcome F
+  unfoldable pub judged : ℕ → (ℕ → Outcome S) → Outcome S → Outcome S
   judged r refuse accept = cond (eqb r 0) accept (refuse r)
 
--- "41, 32, 33 (where sheet or memory is taken), then .."
+-- a call that looks at no frame: what it leaves of the core, with the settings as they were
+abbrev pub lifted : {F : Format} → State F → Outcome Core → Outcome (State F)
+lifted s o =
+    record { code = o .code; reason = o .reason; answer = o .answer; state = with-core s (o .state); ram = o .ram; notifications = o .notifications }
+
+-- "41, 32, 33 (where sheet or memory is taken), then ..": the reason that a call's gate finds, 0 where it lets the call pass
 module _ (L : Limits) (F : Format) where
   abbrev pub state-check : State F → Check
   state-check s = INVALID-STATE if not (valid L F s)
@@ -63,12 +70,12 @@ module _ (L : Limits) (F : Format) where
   abbrev pub ram-check : List ℕ → Check
   ram-check ram = WRONG-RAM-SIZE if not (eqb (length ram) (ram-size L))
 
-  -- a call that takes neither sheet nor memory; the sheet only; both
-  abbrev pub state-gate : State F → List Check
-  state-gate s = state-check s ∷ []
+  -- of a call that takes neither sheet nor memory; the sheet only; both
+  unfoldable pub state-gate : State F → ℕ
+  state-gate s = first-reason (state-check s ∷ [])
 
-  abbrev pub sheet-gate : State F → ℕ → List Check
-  sheet-gate s sheet = state-check s ∷ sheet-check sheet ∷ []
+  unfoldable pub sheet-gate : State F → ℕ → ℕ
+  sheet-gate s sheet = first-reason (state-check s ∷ sheet-check sheet ∷ [])
 
-  abbrev pub full-gate : State F → ℕ → List ℕ → List Check
-  full-gate s sheet ram = state-check s ∷ sheet-check sheet ∷ ram-check ram ∷ []
+  unfoldable pub full-gate : State F → ℕ → List ℕ → ℕ
+  full-gate s sheet ram = first-reason (state-check s ∷ sheet-check sheet ∷ ram-check ram ∷ [])

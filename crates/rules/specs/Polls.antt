@@ -1,21 +1,17 @@
--- The four polls. 01, "Services and polls": write, read, mode and bus-off poll.
-use Prim.Native.Nat.{ℕ}
-use mathlib.Core.Bool.{Bool, false, not, cond, _&&_}
+-- The four polls, which look at no frame, on the core. 01, "Services and polls": write, read, mode and bus-off poll. The calls themselves
+-- stand in Calls.
+use Prim.Native.Nat.{ℕ, _*_}
+use mathlib.Core.Bool.{Bool, true, false, not, cond, _&&_}
 use mathlib.Core.List.{List, [], _∷_, _++_}
 use lib.ListN.{set}
 use lib.Dec.{eqb}
-use Rattle.rules.specs.Limits.{Limits, object-start}
-use Rattle.rules.specs.Format.{Format}
 use Rattle.rules.specs.Repeat.{rising}
 use Rattle.rules.specs.Bytes.{part}
 use Rattle.rules.specs.Head.{identifier-in, length-in, handle-in}
 use Rattle.rules.specs.Mode.{STARTED, STOPPED, NO-REQUEST}
 use Rattle.rules.specs.Notification.{Notification, tx-confirmation, tx-cancellation, rx-indication, mode-indication, bus-off-indication}
-use Rattle.rules.specs.Reason.{first-reason}
-use Rattle.rules.specs.Configuration.{Configuration, object-at}
-use Rattle.rules.specs.State.{Controller, Mailbox, State, empty-mailbox, controller-at, mailbox-at, is-started}
-use Rattle.rules.specs.Outcome.{Outcome, no-answer, no-report, rejected, accepted, judged, full-gate}
-use Rattle.rules.specs.Services.{with-mailboxes}
+use Rattle.rules.specs.Core.{Controller, Owner, Mailbox, Core, empty-mailbox, controller-at, owner-at, mailbox-at, is-started, with-mailboxes}
+use Rattle.rules.specs.Outcome.{Outcome, no-answer, no-report, rejected, accepted, judged}
 
 -- how far a sweep over the objects has come: the mailboxes, and what was reported so far
 pub record Boxes : Type 0 where
@@ -30,6 +26,21 @@ pub record Sweep : Type 0 where
 abbrev pub notify : Notification → Boxes → Boxes
 notify n b = record { mailboxes = b .mailboxes; notifications = b .notifications ++ (n ∷ []) }
 
+-- What a poll does at an object: when the object is due, and the notification that tells of it then.
+pub record Visit : Type 0 where
+  pub due : ℕ → Mailbox → Bool
+  pub note : ℕ → Mailbox → Notification
+
+-- where object h is due it is told of and free again; "Freeing changes no byte of memory."
+abbrev pub visit-one : Visit → ℕ → Boxes → Boxes
+visit-one v h b =
+    let m = mailbox-at (b .mailboxes) h in
+    cond (v .due h m) (record { mailboxes = set (b .mailboxes) h empty-mailbox; notifications = b .notifications ++ (v .note h m ∷ []) }) b
+
+-- "in rising order": the objects in use, of which there are so many
+unfoldable pub visit-all : Visit → ℕ → Boxes → Boxes
+visit-all v count b = rising count (visit-one v) b
+
 -- Why an object is closed: its frame was sent, or its controller left the bus.
 pub data Closing : Type 0 where
   by-sent by-stop : Closing
@@ -39,17 +50,13 @@ abbrev pub closing-notification : Closing → Mailbox → ℕ → ℕ → Notifi
 closing-notification by-sent m h handle = tx-confirmation h handle
 closing-notification by-stop m h handle = tx-cancellation h handle
 
--- a mailbox whose write is closed: free for the next one
-abbrev pub closed-mailbox : Mailbox
-closed-mailbox = record { tx-pending = false; tx-done = false; rx-full = false }
-
--- "A waiting request is carried out and cleared"
-abbrev pub entering-request : Controller → Controller
-entering-request k = record { mode = k .requested-mode; requested-mode = NO-REQUEST; bus-off = k .bus-off }
-
--- "the mode becomes STOPPED, mark and waiting request are cleared"
-abbrev pub entering-bus-off : Controller → Controller
-entering-bus-off k = record { mode = STOPPED; requested-mode = NO-REQUEST; bus-off = false }
+-- What a poll does at a controller: when its turn is due, whether it leaves the bus then, the notification that tells of it, and what it is
+-- afterwards.
+pub record Turn : Type 0 where
+  pub due : Controller → Bool
+  pub leaves : Controller → Bool
+  pub note : ℕ → Controller → Notification
+  pub entered : Controller → Controller
 
 -- "A waiting request is carried out", "skipping those marked off-bus"
 abbrev pub takes-request : Controller → Bool
@@ -59,108 +66,98 @@ takes-request k = not (k .bus-off) && not (eqb (k .requested-mode) NO-REQUEST)
 abbrev pub leaves-started : Controller → Bool
 leaves-started k = is-started k && not (eqb (k .requested-mode) STARTED)
 
-module _ (L : Limits) (F : Format) where
-  -- "Handles, identifiers and lengths in records are read from the memory lent to that call."
-  abbrev pub object-in : List ℕ → ℕ → List ℕ
-  object-in ram h = part (object-start L h) (L .object-size) ram
+-- "A waiting request is carried out and cleared"
+abbrev pub entering-request : Controller → Controller
+entering-request k = record { mode = k .requested-mode; requested-mode = NO-REQUEST; bus-off = k .bus-off }
 
-  -- the object is freed and its closing notified; "Freeing changes no byte of memory."
-  abbrev pub close : Closing → List ℕ → ℕ → Boxes → Boxes
-  close why ram h b =
+-- "the mode becomes STOPPED, mark and waiting request are cleared"
+abbrev pub entering-bus-off : Controller → Controller
+entering-bus-off k = record { mode = STOPPED; requested-mode = NO-REQUEST; bus-off = false }
+
+-- "leaving STARTED cancels and frees every occupied object, rising, before the mode record"
+abbrev pub mode-change : Turn
+mode-change = record { due = takes-request; leaves = leaves-started; note = λ c k. mode-indication c (k .requested-mode); entered = entering-request }
+
+-- "for each marked controller ..: its occupied objects are cancelled and freed, the bus-off record follows, the mode becomes STOPPED"
+abbrev pub going-off : Turn
+going-off = record { due = λ k. k .bus-off; leaves = λ k. true; note = λ c k. bus-off-indication c; entered = entering-bus-off }
+
+-- where a sweep over the objects, and one over the controllers, begins
+abbrev pub boxes-of : Core → Boxes
+boxes-of core = record { mailboxes = core .mailboxes; notifications = [] }
+
+abbrev pub sweep-of : Core → Sweep
+sweep-of core = record { controllers = core .controllers; boxes = boxes-of core }
+
+-- what a sweep leaves of the core
+abbrev pub after-sweep : Core → Sweep → Core
+after-sweep core w =
+    record {
+      initialised = core .initialised;
+      controller-count = core .controller-count;
+      object-count = core .object-count;
+      owners = core .owners;
+      controllers = w .controllers;
+      mailboxes = w .boxes .mailboxes;
+    }
+
+-- an object has so many bytes of memory
+module _ (object-size : ℕ) where
+  abbrev pub object-in : List ℕ → ℕ → List ℕ
+  object-in ram h = part (object-size * h) object-size ram
+
+  -- "Handles, identifiers and lengths in records are read from the memory lent to that call."
+  abbrev pub closing-of : Closing → List ℕ → ℕ → Mailbox → Notification
+  closing-of why ram h m = closing-notification why m h (handle-in (object-in ram h))
+
+  -- "Write poll: each gone object .. is confirmed and freed"
+  abbrev pub confirmation : List ℕ → Visit
+  confirmation ram = record { due = λ h m. m .tx-done; note = closing-of by-sent ram }
+
+  -- "Read poll: each full object .. is indicated and emptied."; its length has so many bytes
+  abbrev pub indication : ℕ → List ℕ → Visit
+  indication length-size ram =
       record {
-        mailboxes = set (b .mailboxes) h closed-mailbox;
-        notifications = b .notifications ++ (closing-notification why (mailbox-at (b .mailboxes) h) h (handle-in (object-in ram h)) ∷ []);
+        due = λ h m. m .rx-full;
+        note = λ h m. rx-indication h (identifier-in (object-in ram h)) (length-in length-size (object-in ram h));
       }
 
-  -- "Write poll: each gone object in rising order is confirmed and freed"
-  abbrev pub confirm-one : List ℕ → ℕ → Boxes → Boxes
-  confirm-one ram h b = cond (mailbox-at (b .mailboxes) h .tx-done) (close by-sent ram h b) b
+  -- "cancels and frees every occupied object" of controller c
+  abbrev pub cancellation : List Owner → List ℕ → ℕ → Visit
+  cancellation owners ram c = record { due = λ h m. eqb (owner-at owners h .controller) c && m .tx-pending; note = closing-of by-stop ram }
 
-  -- "Read poll: each full object in rising order is indicated and emptied."
-  abbrev pub indicate-one : List ℕ → ℕ → Boxes → Boxes
-  indicate-one ram h b =
-      cond (mailbox-at (b .mailboxes) h .rx-full)
-      (record {
-        mailboxes = set (b .mailboxes) h empty-mailbox;
-        notifications = b .notifications ++ (rx-indication h (identifier-in (object-in ram h)) (length-in (L .length-size) (object-in ram h)) ∷ []);
-      })
-      b
+  -- where a controller's turn is due: if it leaves the bus its objects are closed, then it is told of, and it enters its next mode
+  abbrev pub turn-one : Turn → Core → List ℕ → ℕ → Sweep → Sweep
+  turn-one t core ram c w =
+      let k = controller-at (w .controllers) c in
+      let closed = cond (t .leaves k) (visit-all (cancellation (core .owners) ram c) (core .object-count) (w .boxes)) (w .boxes) in
+      cond (t .due k) (record { controllers = set (w .controllers) c (t .entered k); boxes = notify (t .note c k) closed }) w
 
-  -- "cancels and frees every occupied object, rising": those of controller c
-  abbrev pub cancel-one : Configuration F → List ℕ → ℕ → ℕ → Boxes → Boxes
-  cancel-one cfg ram c h b =
-      cond (eqb (object-at L F cfg h .controller) c && mailbox-at (b .mailboxes) h .tx-pending) (close by-stop ram h b) b
+  -- "controllers in rising order": those in use
+  unfoldable pub turn-all : Turn → Core → List ℕ → Sweep
+  turn-all t core ram = rising (core .controller-count) (turn-one t core ram) (sweep-of core)
 
-  unfoldable pub cancel-all : Configuration F → List ℕ → ℕ → Boxes → Boxes
-  cancel-all cfg ram c = rising (cfg .object-count) (cancel-one cfg ram c)
+-- "Polls have no further reason": gate is the reason that the call's gate found
+abbrev pub polled : ℕ → Core → List ℕ → Core → List Notification → Outcome Core
+polled gate core ram next notes = judged gate (rejected no-report no-answer core ram) (accepted no-answer next ram notes)
 
-  -- "leaving STARTED cancels and frees every occupied object, rising, before the mode record"
-  abbrev pub change-mode : Configuration F → List ℕ → ℕ → Controller → Sweep → Sweep
-  change-mode cfg ram c k w =
-      let closed = cond (leaves-started k) (cancel-all cfg ram c (w .boxes)) (w .boxes) in
-      let told = notify (mode-indication c (k .requested-mode)) closed in
-      record { controllers = set (w .controllers) c (entering-request k); boxes = told }
+-- A poll over the objects, and one over the controllers.
+abbrev pub objects-polled : ℕ → Visit → Core → List ℕ → Outcome Core
+objects-polled gate v core ram =
+    let b = visit-all v (core .object-count) (boxes-of core) in polled gate core ram (with-mailboxes core (b .mailboxes)) (b .notifications)
 
-  abbrev pub mode-one : Configuration F → List ℕ → ℕ → Sweep → Sweep
-  mode-one cfg ram c w =
-      cond (takes-request (controller-at (w .controllers) c)) (change-mode cfg ram c (controller-at (w .controllers) c) w) w
+abbrev pub controllers-polled : ℕ → ℕ → Turn → Core → List ℕ → Outcome Core
+controllers-polled gate size t core ram = let w = turn-all size t core ram in polled gate core ram (after-sweep core w) (w .boxes .notifications)
 
-  -- "its occupied objects are cancelled and freed, the bus-off record follows, the mode becomes STOPPED"
-  abbrev pub go-bus-off : Configuration F → List ℕ → ℕ → Sweep → Sweep
-  go-bus-off cfg ram c w =
-      let closed = cancel-all cfg ram c (w .boxes) in
-      let told = notify (bus-off-indication c) closed in
-      record { controllers = set (w .controllers) c (entering-bus-off (controller-at (w .controllers) c)); boxes = told }
+-- The polls on the core: the size of an object, for the read poll the bytes of its length, and the gate's reason come first.
+unfoldable pub main-function-write : ℕ → ℕ → Core → List ℕ → Outcome Core
+main-function-write size gate core ram = objects-polled gate (confirmation size ram) core ram
 
-  -- "Bus-off poll: for each marked controller, rising"
-  abbrev pub bus-off-one : Configuration F → List ℕ → ℕ → Sweep → Sweep
-  bus-off-one cfg ram c w = cond (controller-at (w .controllers) c .bus-off) (go-bus-off cfg ram c w) w
+unfoldable pub main-function-read : ℕ → ℕ → ℕ → Core → List ℕ → Outcome Core
+main-function-read size length-size gate core ram = objects-polled gate (indication size length-size ram) core ram
 
-  -- where a sweep over the objects, and one over the controllers, begins
-  abbrev pub boxes-of : State F → Boxes
-  boxes-of s = record { mailboxes = s .mailboxes; notifications = [] }
+unfoldable pub main-function-mode : ℕ → ℕ → Core → List ℕ → Outcome Core
+main-function-mode size gate core ram = controllers-polled gate size mode-change core ram
 
-  abbrev pub sweep-of : State F → Sweep
-  sweep-of s = record { controllers = s .controllers; boxes = boxes-of s }
-
-  -- the four sweeps
-  unfoldable pub confirmed : State F → List ℕ → Boxes
-  confirmed s ram = rising (s .configuration .object-count) (confirm-one ram) (boxes-of s)
-
-  unfoldable pub indicated : State F → List ℕ → Boxes
-  indicated s ram = rising (s .configuration .object-count) (indicate-one ram) (boxes-of s)
-
-  unfoldable pub modes-changed : State F → List ℕ → Sweep
-  modes-changed s ram = rising (s .configuration .controller-count) (mode-one (s .configuration) ram) (sweep-of s)
-
-  unfoldable pub buses-off : State F → List ℕ → Sweep
-  buses-off s ram = rising (s .configuration .controller-count) (bus-off-one (s .configuration) ram) (sweep-of s)
-
-  abbrev pub after-sweep : State F → Sweep → State F
-  after-sweep s w =
-      record { initialised = s .initialised; configuration = s .configuration; controllers = w .controllers; mailboxes = w .boxes .mailboxes }
-
-  -- "Polls have no further reason"
-  abbrev pub polled : State F → ℕ → List ℕ → State F → List Notification → Outcome F
-  polled s sheet ram next notes =
-      judged F (first-reason (full-gate L F s sheet ram)) (rejected F no-report no-answer s ram) (accepted F no-answer next ram notes)
-
-  -- "Write poll"
-  unfoldable pub main-function-write : State F → ℕ → List ℕ → Outcome F
-  main-function-write s sheet ram =
-      let b = confirmed s ram in polled s sheet ram (with-mailboxes L F s (b .mailboxes)) (b .notifications)
-
-  -- "Read poll"
-  unfoldable pub main-function-read : State F → ℕ → List ℕ → Outcome F
-  main-function-read s sheet ram =
-      let b = indicated s ram in polled s sheet ram (with-mailboxes L F s (b .mailboxes)) (b .notifications)
-
-  -- "Mode poll"
-  unfoldable pub main-function-mode : State F → ℕ → List ℕ → Outcome F
-  main-function-mode s sheet ram =
-      let w = modes-changed s ram in polled s sheet ram (after-sweep s w) (w .boxes .notifications)
-
-  -- "Bus-off poll"
-  unfoldable pub main-function-bus-off : State F → ℕ → List ℕ → Outcome F
-  main-function-bus-off s sheet ram =
-      let w = buses-off s ram in polled s sheet ram (after-sweep s w) (w .boxes .notifications)
+unfoldable pub main-function-bus-off : ℕ → ℕ → Core → List ℕ → Outcome Core
+main-function-bus-off size gate core ram = controllers-polled gate size going-off core ram

@@ -75,7 +75,12 @@ unfoldable pub first-reason : List Check → ℕ
 first-reason [] = 0
 first-reason (c ∷ cs) = cond (c .applies) (c .reason) (first-reason cs)
 
--- every reason of the list has a number above 0
+-- the reasons of two lists in a row: that of the first, or that of the second where the first gives none
+infixr 60 _then_
+abbrev pub _then_ : ℕ → ℕ → ℕ
+a then b = cond (eqb a 0) b a
+
+-- every reason of the list has a number above 0: then the reason 0 says that none of them applies
 unfoldable pub reasons-named : List Check → Bool
 reasons-named [] = true
 reasons-named (c ∷ cs) = not (eqb (c .reason) 0) && reasons-named cs

@@ -1,1 +1,1 @@
-// The rules of the CAN driver bench as definitions, with no code: see specs/, and the laws about them in proofs/.
+// The rules of the CAN driver bench as definitions, with no code: see specs/. What follows from them stands in crates/laws.

@@ -6,8 +6,8 @@ ghost use lib.ListN.{length, replicate};
 ghost use Rattle.rules.specs.Bytes.{splice};
 ghost use Rattle.text.specs.Put as puts;
 ghost use Rattle.io.specs.Digits as digits;
-use layout::bytes::fill;
-use layout::bytes::put_bytes;
+use core_layout::bytes::fill;
+use core_layout::bytes::put_bytes;
 
 // Whether count bytes fit from position at on.
 pub fn has_room(size: usize, at: usize, count: usize) -> bool

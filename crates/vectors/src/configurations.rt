@@ -45,7 +45,7 @@ const RECEIVING: usize = 20;
 
 // Prints what the reader makes of the bytes.
 fn show(name: &[u8], bytes: &[u8]) {
-    let reading = config::read::read(bytes);
+    let reading = can_config::read::read(bytes);
     text(name);
     if reading.accepted {
         text(b": accepted, controllers ");

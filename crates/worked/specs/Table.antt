@@ -10,12 +10,15 @@ use Rattle.rules.specs.Bytes.{big-endian, number, splice, same-bytes}
 use Rattle.rules.specs.Notification.{Notification, words}
 use Rattle.rules.specs.Reason.{first-reason, return-code}
 use Rattle.rules.specs.Mode.{STARTED, STOPPED}
+use Rattle.rules.specs.Core.{controller-at, core-valid}
 use Rattle.rules.specs.Configuration.{configuration-of, accepted-bytes}
-use Rattle.rules.specs.State.{State, controller-at, valid, initial-state}
-use Rattle.rules.specs.Outcome.{Outcome, Answer, no-answer, taken-by, stored-in, unwanted, lost, judged}
-use Rattle.rules.specs.Services.{init, set-controller-mode, write, zero-ram}
-use Rattle.rules.specs.Polls.{main-function-write, main-function-read, main-function-mode, main-function-bus-off, cancel-all, confirmed, indicated, modes-changed, buses-off}
-use Rattle.rules.specs.Events.{tx-complete, bus-off-detected, frame-arrived, best-object}
+use Rattle.rules.specs.State.{State, valid, initial-state}
+use Rattle.rules.specs.Outcome.{Outcome, Answer, no-answer, taken-by, stored-in, unwanted, lost, judged, state-gate, sheet-gate, full-gate}
+use Rattle.rules.specs.Services as services
+use Rattle.rules.specs.Polls as polls
+use Rattle.rules.specs.Polls.{visit-all, turn-all}
+use Rattle.rules.specs.Events as events
+use Rattle.rules.specs.Calls.{init, set-controller-mode, write, main-function-write, main-function-read, main-function-mode, main-function-bus-off, tx-complete, bus-off-detected, frame-arrived}
 use Rattle.rules.specs.Can.{Frame, can-format, next-length, lengths-below, object-bytes}
 use Rattle.rules.specs.Chip.{chip}
 
@@ -30,7 +33,7 @@ pub record Line : Type 0 where
 
 -- a call by the rules, handed the state and the memory
 abbrev pub Call : Type 0
-Call = State can-format → List ℕ → Outcome can-format
+Call = State can-format → List ℕ → Outcome (State can-format)
 
 -- a call, and the line that it must give
 pub record Row : Type 0 where
@@ -38,14 +41,14 @@ pub record Row : Type 0 where
   pub line : Line
 
 -- what the rules say of a call
-pub seen : Outcome can-format → Line
+pub seen : Outcome (State can-format) → Line
 seen o =
     record {
       code = o .code;
       reason = o .reason;
       answer = o .answer;
       records = map words (o .notifications);
-      mode = controller-at (o .state .controllers) 0 .mode;
+      mode = controller-at (o .state .core .controllers) 0 .mode;
       object-0 = take (chip .object-size) (o .ram);
     }
 
@@ -166,5 +169,5 @@ table =
 
 -- Played by the rules, each call gives its line. The first memory has the right size and holds 0xAA everywhere, which Init clears.
 pub worked-lines : played table (initial-state chip can-format) (replicate (ram-size chip) 0xAA) ≡ map (λ r. r .line) table
-unfolding played seen sheet K init-K write-P5 ask sent bus-off arrived write-poll read-poll mode-poll bus-off-poll blank laid-down words-are line _gives_ table rising all-below list-below better best-below big-endian number splice same-bytes words first-reason return-code configuration-of accepted-bytes valid judged init set-controller-mode write main-function-write main-function-read main-function-mode main-function-bus-off cancel-all confirmed indicated modes-changed buses-off tx-complete bus-off-detected frame-arrived best-object next-length lengths-below object-bytes
+unfolding played seen sheet K init-K write-P5 ask sent bus-off arrived write-poll read-poll mode-poll bus-off-poll blank laid-down words-are line _gives_ table rising all-below list-below better best-below big-endian number splice same-bytes words first-reason return-code configuration-of accepted-bytes core-valid valid judged state-gate sheet-gate full-gate init set-controller-mode write main-function-write main-function-read main-function-mode main-function-bus-off tx-complete bus-off-detected frame-arrived services.set-controller-mode polls.main-function-write polls.main-function-read polls.main-function-mode polls.main-function-bus-off visit-all turn-all events.tx-complete events.bus-off-detected events.best-object next-length lengths-below object-bytes
 worked-lines = refl

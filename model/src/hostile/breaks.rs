@@ -37,9 +37,9 @@ fn used_controller(rng: &mut Rng) -> RawController {
 fn used_object(rng: &mut Rng) -> RawObject {
     let rest = RawObject::default();
     match rng.below(6) {
-        0 => RawObject { controller: rng.pick([1, 256, u32::MAX]), ..rest },
+        0 => RawObject { controller: rng.pick([1, 4, 255]), ..rest },
         1 => RawObject { receiving: true, ..rest },
-        2 => RawObject { payload: rng.pick([8, 64, 256]), ..rest },
+        2 => RawObject { payload: rng.pick([8, 64, 255]), ..rest },
         3 => RawObject { padding: rng.pick([1, 255]), ..rest },
         4 => RawObject { code: 1 << rng.below(32), ..rest },
         _ => RawObject { mask: 1 << rng.below(32), ..rest },
@@ -106,15 +106,15 @@ pub fn objects_too_many(rng: &mut Rng, raw: &mut Raw) -> Option<()> {
 }
 
 pub fn object_controller(rng: &mut Rng, raw: &mut Raw) -> Option<()> {
-    let count = raw.controller_count;
+    let count = raw.controller_count as u8;
     let h = place(rng, raw.object_count as usize, |h| !raw.mailboxes[h].occupied)?;
-    raw.objects[h].controller = rng.pick([count, count + 1, 4, 256, 65_536, u32::MAX]).max(count);
+    raw.objects[h].controller = rng.pick([count, count + 1, 4, 5, 128, 255]).max(count);
     Some(())
 }
 
 pub fn payload(rng: &mut Rng, raw: &mut Raw) -> Option<()> {
     let h = place(rng, raw.object_count as usize, |_| true)?;
-    raw.objects[h].payload = rng.pick([0, 1, 7, 9, 12, 63, 65, 72, 264, 320, 65_544, u32::MAX]);
+    raw.objects[h].payload = rng.pick([0, 1, 7, 9, 12, 63, 65, 72, 128, 136, 192, 255]);
     Some(())
 }
 

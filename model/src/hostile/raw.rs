@@ -17,9 +17,9 @@ pub struct RawController {
 /// An object's configuration.
 #[derive(Clone, Copy, Debug, Default, PartialEq, Eq)]
 pub struct RawObject {
-    pub controller: u32,
+    pub controller: u8,
     pub receiving: bool,
-    pub payload: u32,
+    pub payload: u8,
     pub padding: u8,
     pub code: u32,
     pub mask: u32,
@@ -59,7 +59,7 @@ impl Raw {
         let counts = (self.controller_count.try_into().ok()?, self.object_count.try_into().ok()?);
         let mut places = [ObjectConfig::default(); OBJECTS];
         for (place, object) in places.iter_mut().zip(&self.objects) {
-            *place = object_config(object)?;
+            *place = object_config(object);
         }
         let mut controllers = [ControllerPlace::default(); CONTROLLERS];
         for (place, controller) in controllers.iter_mut().zip(&self.controllers) {
@@ -80,10 +80,8 @@ impl Raw {
             out.extend([place.mode, place.request, place.off_bus.into()]);
         }
         for object in &self.objects {
-            out.extend(object.controller.to_be_bytes());
-            out.push(object.receiving.into());
-            out.extend(object.payload.to_be_bytes());
-            out.push(object.padding);
+            out.extend([object.controller, object.receiving.into()]);
+            out.extend([object.payload, object.padding]);
             out.extend(object.code.to_be_bytes());
             out.extend(object.mask.to_be_bytes());
         }
@@ -103,24 +101,24 @@ fn raw_controller(place: ControllerPlace) -> RawController {
 
 fn raw_object(config: &ObjectConfig) -> RawObject {
     RawObject {
-        controller: config.controller.into(),
+        controller: config.controller,
         receiving: config.kind == Kind::Receiving,
-        payload: config.payload.into(),
+        payload: config.payload,
         padding: config.padding,
         code: config.code,
         mask: config.mask,
     }
 }
 
-fn object_config(object: &RawObject) -> Option<ObjectConfig> {
-    Some(ObjectConfig {
-        controller: object.controller.try_into().ok()?,
+fn object_config(object: &RawObject) -> ObjectConfig {
+    ObjectConfig {
+        controller: object.controller,
         kind: if object.receiving { Kind::Receiving } else { Kind::Sending },
-        payload: object.payload.try_into().ok()?,
+        payload: object.payload,
         padding: object.padding,
         code: object.code,
         mask: object.mask,
-    })
+    }
 }
 
 fn controller_place(controller: &RawController) -> Option<ControllerPlace> {

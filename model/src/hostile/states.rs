@@ -73,9 +73,9 @@ pub fn random(rng: &mut Rng) -> Raw {
 
 fn random_object(rng: &mut Rng) -> RawObject {
     RawObject {
-        controller: number(rng, 5),
+        controller: number(rng, 5) as u8,
         receiving: rng.percent(50),
-        payload: if rng.percent(90) { rng.pick([8, 64]) } else { rng.word() },
+        payload: if rng.percent(90) { rng.pick([8, 64]) } else { rng.word() as u8 },
         padding: number(rng, 2) as u8,
         code: if rng.percent(80) { 0 } else { rng.word() },
         mask: if rng.percent(80) { 0 } else { rng.word() },

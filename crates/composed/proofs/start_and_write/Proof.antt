@@ -6,10 +6,11 @@ use mathlib.Core.Path.{_≡_, ap, _∙_}
 use lib.ListN.{length}
 use Rattle.rules.specs.Can.{can-format}
 use Rattle.rules.specs.Chip.{chip}
+use Rattle.rules.specs.State.{State}
 use Rattle.rules.specs.Outcome.{Outcome}
 use Rattle.history.specs.Call.{performed}
 use Rattle.history.specs.Trace.{left-by}
-use Rattle.places.specs.View.{view}
+use Rattle.can_state.specs.View.{view}
 use Rattle.composed.proofs.Laws.{same-write}
 use Rattle.composed.proofs.start_and_write.Statement.{statement}
 use Rattle.composed.proofs.start_and_write.Tie as tie
@@ -50,7 +51,7 @@ returns c fits =
     (view (first .result)) (view (started .result .state)) (view (set .result .state)) (view (mode .result .state)) (view (written .result .state))
     (first .ensures) (omega (arith, started .kept)) (omega (arith, started .kept, set .kept)) (omega (arith, started .kept, set .kept, mode .kept))
     (started .ensures .state-is) (started .ensures .ram-is) (set .ensures .state-is) (mode .ensures .state-is) in
-    record { state-is = written .ensures .state-is ∙ ap (λ (o : Outcome can-format). o .state) same; ram-is = written .ensures .ram-is ∙ ap (λ (o : Outcome can-format). o .ram) same }
+    record { state-is = written .ensures .state-is ∙ ap (λ (o : Outcome (State can-format)). o .state) same; ram-is = written .ensures .ram-is ∙ ap (λ (o : Outcome (State can-format)). o .ram) same }
 
 pub start-and-write-spec : {M : Type 1} → statement M
 start-and-write-spec =

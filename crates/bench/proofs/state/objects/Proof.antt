@@ -7,10 +7,10 @@ use Rattle.bench.proofs.state.objects.Statement.{statement}
 use Rattle.bench.proofs.state.objects.Tie as tie
 
 abbrev Inv-loop : tie.InvT-loop
-Inv-loop out₀ at places mailboxes count end₀ h₀ out end h = (h ≤ count) × (length out ≡ length out₀)
+Inv-loop out₀ at state count end₀ h₀ out end h = (h ≤ count) × (length out ≡ length out₀)
 
 abbrev μ-loop : tie.MeasureT-loop
-μ-loop out₀ at places mailboxes count end₀ h₀ out end h = count - h
+μ-loop out₀ at state count end₀ h₀ out end h = count - h
 
 limited-requires : tie.Need-limited-requires Inv-loop μ-loop
 limited-requires c κs = search needs
@@ -18,17 +18,20 @@ limited-requires c κs = search needs
 loop-holds : tie.Need-loop-holds Inv-loop μ-loop
 loop-holds c = search needs
 
-mul-object : tie.Need-mul-object Inv-loop μ-loop
-mul-object c = search needs
+element-copy-out-t14 : tie.Need-element-copy-out-t14 Inv-loop μ-loop
+element-copy-out-t14 c = search needs
 
-array-copy-out-object : tie.Need-array-copy-out-object Inv-loop μ-loop
-array-copy-out-object c = search needs
+element-copy-out-t11 : tie.Need-element-copy-out-t11 Inv-loop μ-loop
+element-copy-out-t11 c = search needs
 
-mul-object-2 : tie.Need-mul-object-2 Inv-loop μ-loop
-mul-object-2 c = search needs
+element-copy-out-t11-2 : tie.Need-element-copy-out-t11-2 Inv-loop μ-loop
+element-copy-out-t11-2 c = search needs
 
-array-copy-out-object-2 : tie.Need-array-copy-out-object-2 Inv-loop μ-loop
-array-copy-out-object-2 c = search needs
+element-copy-out-t21 : tie.Need-element-copy-out-t21 Inv-loop μ-loop
+element-copy-out-t21 c = search needs
+
+element-copy-out-t24 : tie.Need-element-copy-out-t24 Inv-loop μ-loop
+element-copy-out-t24 c = search needs
 
 object-requires : tie.Need-object-requires Inv-loop μ-loop
 object-requires c κs = search needs
@@ -56,10 +59,11 @@ objects-spec =
     μ-loop
     limited-requires
     loop-holds
-    mul-object
-    array-copy-out-object
-    mul-object-2
-    array-copy-out-object-2
+    element-copy-out-t14
+    element-copy-out-t11
+    element-copy-out-t11-2
+    element-copy-out-t21
+    element-copy-out-t24
     object-requires
     add-h
     loop-less

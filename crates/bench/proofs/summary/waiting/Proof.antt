@@ -6,19 +6,16 @@ use Rattle.bench.proofs.summary.waiting.Statement.{statement}
 use Rattle.bench.proofs.summary.waiting.Tie as tie
 
 abbrev Inv-loop : tie.InvT-loop
-Inv-loop mailboxes count₀ h₀ count h = h ≤ chip .objects
+Inv-loop state count₀ h₀ count h = h ≤ chip .objects
 
 abbrev μ-loop : tie.MeasureT-loop
-μ-loop mailboxes count₀ h₀ count h = chip .objects - h
+μ-loop state count₀ h₀ count h = chip .objects - h
 
 loop-holds : tie.Need-loop-holds Inv-loop μ-loop
 loop-holds c = search needs
 
-mul-m : tie.Need-mul-m Inv-loop μ-loop
-mul-m c = search needs
-
-array-copy-out-m : tie.Need-array-copy-out-m Inv-loop μ-loop
-array-copy-out-m c = search needs
+element-copy-out-wrapping-add-u64 : tie.Need-element-copy-out-wrapping-add-u64 Inv-loop μ-loop
+element-copy-out-wrapping-add-u64 c = search needs
 
 cast-wrapping-add-u64 : tie.Need-cast-wrapping-add-u64 Inv-loop μ-loop
 cast-wrapping-add-u64 c = search needs
@@ -45,8 +42,7 @@ waiting-spec =
     Inv-loop
     μ-loop
     loop-holds
-    mul-m
-    array-copy-out-m
+    element-copy-out-wrapping-add-u64
     cast-wrapping-add-u64
     wrapping-add-u64-requires
     add-h

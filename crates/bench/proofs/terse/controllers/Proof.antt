@@ -7,10 +7,10 @@ use Rattle.bench.proofs.terse.controllers.Statement.{statement}
 use Rattle.bench.proofs.terse.controllers.Tie as tie
 
 abbrev Inv-loop : tie.InvT-loop
-Inv-loop out₀ at places count end₀ c₀ out end c = (c ≤ count) × (length out ≡ length out₀)
+Inv-loop out₀ at state count end₀ c₀ out end c = (c ≤ count) × (length out ≡ length out₀)
 
 abbrev μ-loop : tie.MeasureT-loop
-μ-loop out₀ at places count end₀ c₀ out end c = count - c
+μ-loop out₀ at state count end₀ c₀ out end c = count - c
 
 limited-requires : tie.Need-limited-requires Inv-loop μ-loop
 limited-requires c κs = search needs
@@ -18,11 +18,14 @@ limited-requires c κs = search needs
 loop-holds : tie.Need-loop-holds Inv-loop μ-loop
 loop-holds c = search needs
 
-mul-controller : tie.Need-mul-controller Inv-loop μ-loop
-mul-controller c = search needs
+element-copy-out-t13 : tie.Need-element-copy-out-t13 Inv-loop μ-loop
+element-copy-out-t13 c = search needs
 
-array-copy-out-controller : tie.Need-array-copy-out-controller Inv-loop μ-loop
-array-copy-out-controller c = search needs
+element-copy-out-t16 : tie.Need-element-copy-out-t16 Inv-loop μ-loop
+element-copy-out-t16 c = search needs
+
+element-copy-out-t10 : tie.Need-element-copy-out-t10 Inv-loop μ-loop
+element-copy-out-t10 c = search needs
 
 controller-requires : tie.Need-controller-requires Inv-loop μ-loop
 controller-requires c κs = search needs
@@ -50,8 +53,9 @@ controllers-spec =
     μ-loop
     limited-requires
     loop-holds
-    mul-controller
-    array-copy-out-controller
+    element-copy-out-t13
+    element-copy-out-t16
+    element-copy-out-t10
     controller-requires
     add-c
     loop-less

@@ -7,10 +7,10 @@ use Rattle.bench.proofs.terse.mailboxes.Statement.{statement}
 use Rattle.bench.proofs.terse.mailboxes.Tie as tie
 
 abbrev Inv-loop : tie.InvT-loop
-Inv-loop out₀ at places count end₀ h₀ out end h = (h ≤ count) × (length out ≡ length out₀)
+Inv-loop out₀ at state count end₀ h₀ out end h = (h ≤ count) × (length out ≡ length out₀)
 
 abbrev μ-loop : tie.MeasureT-loop
-μ-loop out₀ at places count end₀ h₀ out end h = count - h
+μ-loop out₀ at state count end₀ h₀ out end h = count - h
 
 limited-requires : tie.Need-limited-requires Inv-loop μ-loop
 limited-requires c κs = search needs
@@ -18,11 +18,14 @@ limited-requires c κs = search needs
 loop-holds : tie.Need-loop-holds Inv-loop μ-loop
 loop-holds c = search needs
 
-mul-mailbox : tie.Need-mul-mailbox Inv-loop μ-loop
-mul-mailbox c = search needs
+element-copy-out-t10 : tie.Need-element-copy-out-t10 Inv-loop μ-loop
+element-copy-out-t10 c = search needs
 
-array-copy-out-mailbox : tie.Need-array-copy-out-mailbox Inv-loop μ-loop
-array-copy-out-mailbox c = search needs
+element-copy-out-t15 : tie.Need-element-copy-out-t15 Inv-loop μ-loop
+element-copy-out-t15 c = search needs
+
+element-copy-out-t18 : tie.Need-element-copy-out-t18 Inv-loop μ-loop
+element-copy-out-t18 c = search needs
 
 mailbox-requires : tie.Need-mailbox-requires Inv-loop μ-loop
 mailbox-requires c κs = search needs
@@ -50,8 +53,9 @@ mailboxes-spec =
     μ-loop
     limited-requires
     loop-holds
-    mul-mailbox
-    array-copy-out-mailbox
+    element-copy-out-t10
+    element-copy-out-t15
+    element-copy-out-t18
     mailbox-requires
     add-h
     loop-less

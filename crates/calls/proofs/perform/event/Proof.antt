@@ -3,7 +3,7 @@
 use borrow.Author.Needs.{needs}
 use mathlib.Core.Path.{refl}
 use mathlib.Core.List.{[], _∷_}
-use Rattle.places.specs.View.{view}
+use Rattle.can_state.specs.View.{view}
 use Rattle.calls.specs.Request.{EVENT, outcome-of}
 use Rattle.calls.proofs.Laws.{told, sent-keeps, bus-off-keeps}
 use Rattle.calls.proofs.Arms.{only}

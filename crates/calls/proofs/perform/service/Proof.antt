@@ -4,7 +4,7 @@ use borrow.Author.Needs.{needs}
 use mathlib.Core.Path.{refl}
 use mathlib.Core.List.{[], _∷_}
 use lib.ListN.{length}
-use Rattle.places.specs.View.{view}
+use Rattle.can_state.specs.View.{view}
 use Rattle.calls.specs.Request.{SERVICE, outcome-of}
 use Rattle.calls.proofs.Laws.{told, set-keeps, get-keeps}
 use Rattle.calls.proofs.Arms.{only}

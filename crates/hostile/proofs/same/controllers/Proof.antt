@@ -13,20 +13,23 @@ abbrev μ-loop : tie.MeasureT-loop
 loop-holds : tie.Need-loop-holds Inv-loop μ-loop
 loop-holds c = search needs
 
-mul-controller : tie.Need-mul-controller Inv-loop μ-loop
-mul-controller c = search needs
+element-copy-out-same : tie.Need-element-copy-out-same Inv-loop μ-loop
+element-copy-out-same c = search needs
 
-array-copy-out-controller : tie.Need-array-copy-out-controller Inv-loop μ-loop
-array-copy-out-controller c = search needs
+element-copy-out-same-2 : tie.Need-element-copy-out-same-2 Inv-loop μ-loop
+element-copy-out-same-2 c = search needs
 
-mul-controller-2 : tie.Need-mul-controller-2 Inv-loop μ-loop
-mul-controller-2 c = search needs
+element-copy-out-same-3 : tie.Need-element-copy-out-same-3 Inv-loop μ-loop
+element-copy-out-same-3 c = search needs
 
-array-copy-out-controller-2 : tie.Need-array-copy-out-controller-2 Inv-loop μ-loop
-array-copy-out-controller-2 c = search needs
+element-copy-out-same-4 : tie.Need-element-copy-out-same-4 Inv-loop μ-loop
+element-copy-out-same-4 c = search needs
 
-controller-requires : tie.Need-controller-requires Inv-loop μ-loop
-controller-requires c κs = search needs
+element-copy-out-same-5 : tie.Need-element-copy-out-same-5 Inv-loop μ-loop
+element-copy-out-same-5 c = search needs
+
+element-copy-out-same-6 : tie.Need-element-copy-out-same-6 Inv-loop μ-loop
+element-copy-out-same-6 c = search needs
 
 add-c : tie.Need-add-c Inv-loop μ-loop
 add-c c = search needs
@@ -47,11 +50,12 @@ controllers-spec =
     Inv-loop
     μ-loop
     loop-holds
-    mul-controller
-    array-copy-out-controller
-    mul-controller-2
-    array-copy-out-controller-2
-    controller-requires
+    element-copy-out-same
+    element-copy-out-same-2
+    element-copy-out-same-3
+    element-copy-out-same-4
+    element-copy-out-same-5
+    element-copy-out-same-6
     add-c
     loop-less
     loop-again

@@ -13,20 +13,23 @@ abbrev μ-loop : tie.MeasureT-loop
 loop-holds : tie.Need-loop-holds Inv-loop μ-loop
 loop-holds c = search needs
 
-mul-mailbox : tie.Need-mul-mailbox Inv-loop μ-loop
-mul-mailbox c = search needs
+element-copy-out-same : tie.Need-element-copy-out-same Inv-loop μ-loop
+element-copy-out-same c = search needs
 
-array-copy-out-mailbox : tie.Need-array-copy-out-mailbox Inv-loop μ-loop
-array-copy-out-mailbox c = search needs
+element-copy-out-same-2 : tie.Need-element-copy-out-same-2 Inv-loop μ-loop
+element-copy-out-same-2 c = search needs
 
-mul-mailbox-2 : tie.Need-mul-mailbox-2 Inv-loop μ-loop
-mul-mailbox-2 c = search needs
+element-copy-out-same-3 : tie.Need-element-copy-out-same-3 Inv-loop μ-loop
+element-copy-out-same-3 c = search needs
 
-array-copy-out-mailbox-2 : tie.Need-array-copy-out-mailbox-2 Inv-loop μ-loop
-array-copy-out-mailbox-2 c = search needs
+element-copy-out-same-4 : tie.Need-element-copy-out-same-4 Inv-loop μ-loop
+element-copy-out-same-4 c = search needs
 
-mailbox-requires : tie.Need-mailbox-requires Inv-loop μ-loop
-mailbox-requires c κs = search needs
+element-copy-out-same-5 : tie.Need-element-copy-out-same-5 Inv-loop μ-loop
+element-copy-out-same-5 c = search needs
+
+element-copy-out-same-6 : tie.Need-element-copy-out-same-6 Inv-loop μ-loop
+element-copy-out-same-6 c = search needs
 
 add-h : tie.Need-add-h Inv-loop μ-loop
 add-h c = search needs
@@ -47,11 +50,12 @@ mailboxes-spec =
     Inv-loop
     μ-loop
     loop-holds
-    mul-mailbox
-    array-copy-out-mailbox
-    mul-mailbox-2
-    array-copy-out-mailbox-2
-    mailbox-requires
+    element-copy-out-same
+    element-copy-out-same-2
+    element-copy-out-same-3
+    element-copy-out-same-4
+    element-copy-out-same-5
+    element-copy-out-same-6
     add-h
     loop-less
     loop-again

@@ -1,0 +1,2 @@
+-- What a poll is handed of the state.
+pub mod Rooms

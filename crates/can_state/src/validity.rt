@@ -1,0 +1,49 @@
+// When a state is valid.
+ghost use mathlib.Core.Path.{_≡_};
+ghost use Rattle.rules.specs.State as rules;
+ghost use Rattle.rules.specs.Can.{can-format};
+ghost use Rattle.rules.specs.Chip.{chip};
+ghost use Rattle.can_state.specs.View.{view};
+use crate::settings::all_settings_valid;
+use crate::state::State;
+use core_validity::validity::core_valid;
+
+// Whether the state is one that the driver can be in: reason 41 applies to every other.
+pub fn valid(s: State) -> bool
+    ensures { λ r. ⌜ r ≡ rules.valid chip can-format (view s) ⌝ }
+{
+    let modes = s.modes;
+    let requests = s.requests;
+    let marks = s.marks;
+    let owners = s.owners;
+    let receivings = s.receivings;
+    let pendings = s.pendings;
+    let dones = s.dones;
+    let fulls = s.fulls;
+    let payloads = s.payloads;
+    let paddings = s.paddings;
+    let codes = s.codes;
+    let masks = s.masks;
+    let core = core_valid(
+        s.initialised,
+        s.controller_count,
+        s.object_count,
+        &modes,
+        &requests,
+        &marks,
+        &owners,
+        &receivings,
+        &pendings,
+        &dones,
+        &fulls,
+    );
+    let settings = all_settings_valid(
+        s.object_count,
+        &receivings,
+        &payloads,
+        &paddings,
+        &codes,
+        &masks,
+    );
+    core & settings
+}

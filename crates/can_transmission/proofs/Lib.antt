@@ -1,0 +1,2 @@
+-- What the proof of Write rests on.
+pub mod Writes

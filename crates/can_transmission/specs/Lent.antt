@@ -1,0 +1,12 @@
+-- Write over lent arrays: what it is handed, and the room that it needs once its gate lets it pass.
+use Prim.Native.Nat.{ℕ, _≤_}
+use mathlib.Core.Path.{_≡_}
+use mathlib.Core.List.{List}
+use lib.ListN.{length}
+use Rattle.rules.specs.Limits.{ram-size}
+use Rattle.rules.specs.Chip.{chip}
+
+-- the chip has a place for each object in use, and the memory is whole
+pub record WriteRoom (object-count : ℕ) (ram : List ℕ) : Type 0 where
+  pub objects-fit : object-count ≤ chip .objects
+  pub ram-whole : length ram ≡ ram-size chip

@@ -1,2 +1,0 @@
--- Laws of the choice.
-pub mod Picks

@@ -1,2 +1,0 @@
-// Which object takes an arriving frame.
-pub mod choice;

@@ -1,0 +1,41 @@
+-- The paper's reason and values for every case of the answers that tell more than a verdict.
+use Prim.Native.Nat.{ℕ}
+use Rattle.rules.specs.Outcome.{Answer, no-answer, mode, taken-by, stored-in, unwanted, lost}
+use Rattle.core_answers.specs.Answer.{reason-of}
+use Rattle.core_answers.specs.declared.reply.ModeReply as modes
+use Rattle.core_answers.specs.declared.reply.ModeReply.{ModeReply}
+use Rattle.core_answers.specs.declared.reply.WriteReply as writes
+use Rattle.core_answers.specs.declared.reply.WriteReply.{WriteReply}
+use Rattle.core_answers.specs.declared.reply.ArrivalReply as arrivals
+use Rattle.core_answers.specs.declared.reply.ArrivalReply.{ArrivalReply}
+
+-- GetControllerMode "answers the mode, and 0 with a no"
+abbrev pub mode-reason : ModeReply → ℕ
+mode-reason (modes.the-variants.Mode m) = 0
+mode-reason (modes.the-variants.Rejected r) = reason-of r
+
+abbrev pub mode-answer : ModeReply → Answer
+mode-answer (modes.the-variants.Mode m) = mode m
+mode-answer (modes.the-variants.Rejected r) = mode 0
+
+-- Write answers the object that took the frame.
+abbrev pub write-reason : WriteReply → ℕ
+write-reason (writes.the-variants.TakenBy h) = 0
+write-reason (writes.the-variants.Rejected r) = reason-of r
+
+abbrev pub write-answer : WriteReply → Answer
+write-answer (writes.the-variants.TakenBy h) = taken-by h
+write-answer (writes.the-variants.Rejected r) = no-answer
+
+-- "All three return 0", "A no names none of the three, only its reason."
+abbrev pub arrival-reason : ArrivalReply → ℕ
+arrival-reason (arrivals.the-variants.Stored h) = 0
+arrival-reason arrivals.the-variants.Unwanted = 0
+arrival-reason arrivals.the-variants.Lost = 0
+arrival-reason (arrivals.the-variants.Rejected r) = reason-of r
+
+abbrev pub arrival-answer : ArrivalReply → Answer
+arrival-answer (arrivals.the-variants.Stored h) = stored-in h
+arrival-answer arrivals.the-variants.Unwanted = unwanted
+arrival-answer arrivals.the-variants.Lost = lost
+arrival-answer (arrivals.the-variants.Rejected r) = no-answer

@@ -1,0 +1,58 @@
+// What the calls answer that tell more than a verdict. crates/core_answers/specs/Reply.antt gives the paper's numbers for each case.
+ghost use mathlib.Core.Path.{_≡_};
+ghost use Rattle.core_answers.specs.Answer.{verdict-reason};
+ghost use Rattle.core_answers.specs.Reply.{mode-reason, write-reason, arrival-reason};
+use crate::rejection::Rejection;
+use crate::verdict::Verdict;
+
+// GetControllerMode: the mode, or why there is none.
+pub enum ModeReply {
+    Mode(u8),
+    Rejected(Rejection),
+}
+
+// Write: the object that took the frame, or why none did.
+pub enum WriteReply {
+    TakenBy(u32),
+    Rejected(Rejection),
+}
+
+// Arrived: the object that stores the frame; no object wants it; or all that want it are full.
+pub enum ArrivalReply {
+    Stored(u32),
+    Unwanted,
+    Lost,
+    Rejected(Rejection),
+}
+
+// The verdict in the answer to GetControllerMode.
+pub fn mode_verdict(reply: ModeReply) -> Verdict
+    ensures { λ v. ⌜ verdict-reason v ≡ mode-reason reply ⌝ }
+{
+    match reply {
+        ModeReply::Mode(_) => Verdict::Accepted,
+        ModeReply::Rejected(r) => Verdict::Rejected(r),
+    }
+}
+
+// The verdict in the answer to Write.
+pub fn write_verdict(reply: WriteReply) -> Verdict
+    ensures { λ v. ⌜ verdict-reason v ≡ write-reason reply ⌝ }
+{
+    match reply {
+        WriteReply::TakenBy(_) => Verdict::Accepted,
+        WriteReply::Rejected(r) => Verdict::Rejected(r),
+    }
+}
+
+// The verdict in the answer to Arrived: all three ends of an arrival are accepted.
+pub fn arrival_verdict(reply: ArrivalReply) -> Verdict
+    ensures { λ v. ⌜ verdict-reason v ≡ arrival-reason reply ⌝ }
+{
+    match reply {
+        ArrivalReply::Stored(_) => Verdict::Accepted,
+        ArrivalReply::Unwanted => Verdict::Accepted,
+        ArrivalReply::Lost => Verdict::Accepted,
+        ArrivalReply::Rejected(r) => Verdict::Rejected(r),
+    }
+}

@@ -1,0 +1,2 @@
+-- Laws of places in lent arrays.
+pub mod Laws

@@ -1,0 +1,59 @@
+// What stands at a place of lent arrays. Past the last place there is what stands at one at rest, so that any number can be asked for.
+ghost use mathlib.Core.Path.{_≡_};
+ghost use lib.ListN.{length};
+ghost use Rattle.rules.specs.Core as rules;
+ghost use Rattle.core_places.specs.View.{view-controller, view-owner, view-mailbox};
+ghost use Rattle.core_places.specs.Arrays.{Alike, controllers-in, owners-in, mailboxes-in};
+use crate::controller::Controller;
+use crate::controller::idle_controller;
+use crate::mailbox::Mailbox;
+use crate::mailbox::empty_mailbox;
+use crate::owner::Owner;
+use crate::owner::unused_owner;
+
+// Controller c.
+pub fn controller_at(modes: &[u8], requests: &[u8], marks: &[bool], c: usize) -> Controller
+    requires { ⌜ Alike (now modes) (now requests) (now marks) ⌝ }
+    ensures { λ r. ⌜ view-controller r ≡ rules.controller-at (controllers-in (now (modes .entry)) (now (requests .entry)) (now (marks .entry))) c ⌝ }
+{
+    if c < modes.len() {
+        Controller {
+            mode: modes[c],
+            requested_mode: requests[c],
+            bus_off: marks[c],
+        }
+    } else {
+        idle_controller()
+    }
+}
+
+// The owner of object h.
+pub fn owner_at(controllers: &[u8], receivings: &[bool], h: usize) -> Owner
+    requires { ⌜ length (now receivings) ≡ length (now controllers) ⌝ }
+    ensures { λ r. ⌜ view-owner r ≡ rules.owner-at (owners-in (now (controllers .entry)) (now (receivings .entry))) h ⌝ }
+{
+    if h < controllers.len() {
+        Owner {
+            controller: controllers[h],
+            receiving: receivings[h],
+        }
+    } else {
+        unused_owner()
+    }
+}
+
+// The mailbox of object h.
+pub fn mailbox_at(pendings: &[bool], dones: &[bool], fulls: &[bool], h: usize) -> Mailbox
+    requires { ⌜ Alike (now pendings) (now dones) (now fulls) ⌝ }
+    ensures { λ r. ⌜ view-mailbox r ≡ rules.mailbox-at (mailboxes-in (now (pendings .entry)) (now (dones .entry)) (now (fulls .entry))) h ⌝ }
+{
+    if h < pendings.len() {
+        Mailbox {
+            tx_pending: pendings[h],
+            tx_done: dones[h],
+            rx_full: fulls[h],
+        }
+    } else {
+        empty_mailbox()
+    }
+}

@@ -1,0 +1,2 @@
+-- How a sweep over the objects goes on.
+pub mod Visits

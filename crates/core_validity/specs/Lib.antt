@@ -1,0 +1,3 @@
+-- What the tests of a core in lent arrays are made of.
+pub mod Arrays
+pub mod Tests

@@ -1,0 +1,48 @@
+-- The parts of the test of a core. Places in use stand first: a count parts them from the unused ones.
+use Prim.Native.Nat.{ℕ}
+use mathlib.Core.Bool.{Bool, true, false, not, cond, _&&_, _||_}
+use mathlib.Core.List.{List}
+use lib.ListN.{length, getD}
+use lib.Dec.{eqb, ltb}
+use Rattle.rules.specs.Limits.{Limits}
+use Rattle.rules.specs.Mode.{STARTED}
+use Rattle.rules.specs.Repeat.{all-below}
+use Rattle.rules.specs.Core.{Controller, Owner, Mailbox, controller-at, owner-at, mailbox-at, controller-valid, controller-idle, owner-valid, owner-unused, mailbox-valid, mailbox-empty, counts-valid}
+
+-- p holds of every place below n but the first ones, so many as the count says
+abbrev pub all-from : ℕ → ℕ → (ℕ → Bool) → Bool
+all-from n count p = all-below n (λ i. cond (ltb i count) true (p i))
+
+-- the counts of an initialised core are valid, and before initialisation nothing is in use
+abbrev pub counts-suit : Limits → Bool → ℕ → ℕ → Bool
+counts-suit L initialised controller-count object-count =
+    cond initialised (counts-valid L controller-count object-count) (eqb controller-count 0 && eqb object-count 0)
+
+-- each controller in use is valid
+abbrev pub controllers-valid : List Controller → ℕ → Bool
+controllers-valid ks count = all-below count (λ c. controller-valid (controller-at ks c))
+
+-- each other controller is at rest
+abbrev pub controllers-idle : List Controller → ℕ → Bool
+controllers-idle ks count = all-from (length ks) count (λ c. controller-idle (controller-at ks c))
+
+-- each object in use names a controller in use, and its mailbox would be valid if that were STARTED
+abbrev pub objects-valid : ℕ → List Owner → List Mailbox → ℕ → Bool
+objects-valid controller-count os ms count =
+    all-below count (λ h. owner-valid controller-count (owner-at os h) && mailbox-valid (owner-at os h .receiving) true (mailbox-at ms h))
+
+-- each other object is at rest
+abbrev pub objects-unused : List Owner → List Mailbox → ℕ → Bool
+objects-unused os ms count = all-from (length os) count (λ h. owner-unused (owner-at os h) && mailbox-empty (mailbox-at ms h))
+
+-- no frame waits in an object of controller c
+abbrev pub none-waits : List ℕ → List Bool → ℕ → ℕ → Bool
+none-waits owners pendings count c = all-below count (λ h. not (getD pendings h false) || not (eqb (getD owners h 0) c))
+
+-- controller c, which is in this mode, is STARTED, or no frame waits for it
+abbrev pub started-or-none : List ℕ → List Bool → ℕ → ℕ → ℕ → Bool
+started-or-none owners pendings count mode c = eqb mode STARTED || none-waits owners pendings count c
+
+-- so it is of every controller below a number
+abbrev pub waiting-started : ℕ → List ℕ → List ℕ → List Bool → ℕ → Bool
+waiting-started controllers modes owners pendings count = all-below controllers (λ c. started-or-none owners pendings count (getD modes c 0) c)

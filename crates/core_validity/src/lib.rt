@@ -1,0 +1,6 @@
+// When a core is valid, tested on lent arrays with any number of places.
+mod controllers;
+pub mod counts;
+mod objects;
+pub mod validity;
+mod waiting;

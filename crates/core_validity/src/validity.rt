@@ -1,0 +1,61 @@
+// When a core is valid.
+ghost use mathlib.Core.Path.{_≡_};
+ghost use lib.ListN.{length};
+ghost use Rattle.rules.specs.Core as rules;
+ghost use Rattle.core_places.specs.Arrays.{core-in};
+ghost use Rattle.core_validity.specs.Arrays.{limits-of, Places};
+use crate::controllers::controllers_idle;
+use crate::controllers::controllers_valid;
+use crate::counts::counts_suit;
+use crate::objects::objects_unused;
+use crate::objects::objects_valid;
+use crate::waiting::waiting_started;
+
+// Whether the core is one that the driver can be in, where there are as many places as the arrays have.
+pub fn core_valid(
+    initialised: bool,
+    controller_count: usize,
+    object_count: usize,
+    modes: &[u8],
+    requests: &[u8],
+    marks: &[bool],
+    owners: &[u8],
+    receivings: &[bool],
+    pendings: &[bool],
+    dones: &[bool],
+    fulls: &[bool],
+) -> bool
+    requires { ⌜ Places (now modes) (now requests) (now marks) (now owners) (now receivings) (now pendings) (now dones) (now fulls) ⌝ }
+    ensures { λ r. ⌜ r
+        ≡ rules.core-valid (limits-of (length (now (modes .entry))) (length (now (owners .entry))))
+        (core-in initialised «controller_count» «object_count» (now (modes .entry)) (now (requests .entry)) (now (marks .entry)) (now (owners .entry))
+        (now (receivings .entry)) (now (pendings .entry)) (now (dones .entry)) (now (fulls .entry))) ⌝ }
+{
+    let counts = counts_suit(
+        modes.len(),
+        owners.len(),
+        initialised,
+        controller_count,
+        object_count,
+    );
+    if !counts {
+        return false;
+    }
+    let idle = controllers_idle(modes, requests, marks, controller_count);
+    let unused = objects_unused(owners, receivings, pendings, dones, fulls, object_count);
+    if !initialised {
+        return idle & unused;
+    }
+    let controllers = controllers_valid(modes, requests, marks, controller_count);
+    let objects = objects_valid(
+        controller_count,
+        owners,
+        receivings,
+        pendings,
+        dones,
+        fulls,
+        object_count,
+    );
+    let waiting = waiting_started(controller_count, modes, owners, pendings, object_count);
+    controllers & (objects & waiting) & (idle & unused)
+}

@@ -1,3 +1,0 @@
-// The service DeInit.
-pub mod deinit;
-pub mod number;

@@ -1,2 +1,0 @@
-// The number of this service, which development errors name.
-pub const DEINIT: u32 = 0x10;

@@ -1,2 +1,0 @@
--- Laws that the proofs of the events cite.
-pub mod Laws

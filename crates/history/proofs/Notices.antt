@@ -1,0 +1,52 @@
+-- Which notifications close an object. One that does not leaves the object's account as it was.
+use Prim.Native.Nat.{ℕ}
+use mathlib.Core.Path.{_≡_, refl, ap, _∙_}
+use mathlib.Core.Bool.{false}
+use mathlib.Core.List.{List, [], _∷_, _++_}
+use mathlib.Core.Option.{Option, none, some}
+use Rattle.rules.specs.Reason.{is-development-error}
+use Rattle.rules.specs.Notification.{Notification, tx-confirmation, rx-indication, mode-indication, bus-off-indication, development-error, data-lost, tx-cancellation}
+use Rattle.history.specs.Account.{Account, after-notification, after-notifications}
+use Rattle.history.specs.Demand1.{error-record}
+use Rattle.history.specs.Operators.{closes, closed-in}
+use Rattle.laws.proofs.Tests.{cond-both, neither}
+
+-- a refusal closes no object
+pub quiet-error : (h : ℕ) (service : Option ℕ) (r : ℕ) → closed-in h (error-record service r) ≡ false
+unfolding closed-in
+quiet-error h none r = refl
+quiet-error h (some service) r =
+    cond-both (λ (ns : List Notification). closed-in h ns ≡ false) (is-development-error r) (development-error service r ∷ []) [] (λ t. refl) (λ t. refl)
+
+-- one notification more, which does not close the object
+pub still-open : (h : ℕ) (ns : List Notification) (n : Notification) → closed-in h ns ≡ false → closes h n ≡ false → closed-in h (ns ++ (n ∷ [])) ≡ false
+unfolding closed-in
+still-open h [] n e f = rw f
+still-open h (m ∷ ns) n e f =
+    let none-closed = neither (closes h m) (closed-in h ns) e in
+    rw (none-closed .0) (still-open h ns n (none-closed .1) f)
+
+unclosed-one : (h : ℕ) (n : Notification) (x : Account) → closes h n ≡ false → after-notification h x n ≡ x
+unclosed-one h (tx-confirmation i handle) x e = rw e
+unclosed-one h (tx-cancellation i handle) x e = rw e
+unclosed-one h (rx-indication i identifier len) x e = refl
+unclosed-one h (mode-indication c m) x e = refl
+unclosed-one h (bus-off-indication c) x e = refl
+unclosed-one h (development-error service error) x e = refl
+unclosed-one h (data-lost i) x e = refl
+
+pub unclosed : (h : ℕ) (ns : List Notification) (x : Account) → closed-in h ns ≡ false → after-notifications h x ns ≡ x
+unfolding closed-in after-notifications
+unclosed h [] x e = refl
+unclosed h (n ∷ ns) x e =
+    let none-closed = neither (closes h n) (closed-in h ns) e in
+    ap (λ (y : Account). after-notifications h y ns) (unclosed-one h n x (none-closed .0)) ∙ unclosed h ns x (none-closed .1)
+
+-- the account after one notification more
+pub after-more : (h : ℕ) (a : Account) (ns : List Notification) (n : Notification) → after-notifications h a (ns ++ (n ∷ [])) ≡ after-notification h (after-notifications h a ns) n
+unfolding after-notifications
+after-more h a [] n = refl
+after-more h a (m ∷ ns) n = after-more h (after-notification h a m) ns n
+
+pub after-unclosed : (h : ℕ) (a : Account) (ns : List Notification) (n : Notification) → closes h n ≡ false → after-notifications h a (ns ++ (n ∷ [])) ≡ after-notifications h a ns
+after-unclosed h a ns n e = after-more h a ns n ∙ unclosed-one h n (after-notifications h a ns) e

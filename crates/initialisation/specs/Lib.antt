@@ -1,2 +1,0 @@
--- What the contracts of this crate say beyond the rules.
-pub mod Checks

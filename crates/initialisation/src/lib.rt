@@ -1,3 +1,0 @@
-// The service Init.
-pub mod init;
-pub mod number;

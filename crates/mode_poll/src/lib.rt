@@ -1,2 +1,0 @@
-// The mode poll: what the driver reports of modes.
-pub mod mode;

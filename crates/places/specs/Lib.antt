@@ -1,4 +1,0 @@
-pub mod View
-pub mod Rest
-pub mod Range
-pub mod Place

@@ -1,2 +1,0 @@
--- Laws that the proofs of the polls cite.
-pub mod Judging

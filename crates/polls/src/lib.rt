@@ -1,2 +1,0 @@
-// What the four polls share: how each begins and ends.
-pub mod poll;

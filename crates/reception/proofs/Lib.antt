@@ -1,2 +1,0 @@
--- Laws of an arrival that passes its checks.
-pub mod Arrivals

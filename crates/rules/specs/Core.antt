@@ -1,0 +1,187 @@
+-- The core of the driver state: who owns each object, and what waits where. It never sees a frame, so that every kind of frame has the
+-- same one. 01, "What the bench is made of"; valid is 01's sound.
+use Prim.Native.Nat.{ℕ}
+use mathlib.Core.Bool.{Bool, false, not, cond, _&&_, _||_}
+use mathlib.Core.List.{List}
+use lib.ListN.{length, getD, replicate}
+use lib.Dec.{eqb, ltb, leb}
+use Rattle.rules.specs.Limits.{Limits}
+use Rattle.rules.specs.Mode.{UNINIT, STARTED, SLEEP, NO-REQUEST, permitted}
+use Rattle.rules.specs.Repeat.{all-below}
+
+-- "its mode, a waiting request (none or a mode) and an off-bus mark"
+pub record Controller : Type 0 where
+  pub mode : ℕ
+  pub requested-mode : ℕ
+  pub bus-off : Bool
+
+-- whose an object is, and its kind: "controller .., kind (0 sending, 1 receiving)"
+pub record Owner : Type 0 where
+  pub controller : ℕ
+  pub receiving : Bool
+
+-- "per sending object occupied and gone; per receiving object full"
+pub record Mailbox : Type 0 where
+  -- "occupied": a written frame waits for its closing notification
+  pub tx-pending : Bool
+  -- "gone": the frame was sent, its confirmation is due
+  pub tx-done : Bool
+  -- "full": a received frame waits to be read
+  pub rx-full : Bool
+
+pub record Core : Type 0 where
+  pub initialised : Bool
+  -- so many are in use
+  pub controller-count : ℕ
+  pub object-count : ℕ
+  -- a place for each object
+  pub owners : List Owner
+  -- a place for each controller
+  pub controllers : List Controller
+  -- a place for each object
+  pub mailboxes : List Mailbox
+
+-- A place at rest: everything zero, none or clear.
+abbrev pub idle-controller : Controller
+idle-controller = record { mode = UNINIT; requested-mode = NO-REQUEST; bus-off = false }
+
+abbrev pub unused-owner : Owner
+unused-owner = record { controller = 0; receiving = false }
+
+abbrev pub empty-mailbox : Mailbox
+empty-mailbox = record { tx-pending = false; tx-done = false; rx-full = false }
+
+abbrev pub controller-idle : Controller → Bool
+controller-idle k = eqb (k .mode) UNINIT && eqb (k .requested-mode) NO-REQUEST && not (k .bus-off)
+
+abbrev pub owner-unused : Owner → Bool
+owner-unused o = eqb (o .controller) 0 && not (o .receiving)
+
+abbrev pub mailbox-empty : Mailbox → Bool
+mailbox-empty m = not (m .tx-pending) && not (m .tx-done) && not (m .rx-full)
+
+abbrev pub controller-at : List Controller → ℕ → Controller
+controller-at ks c = getD ks c idle-controller
+
+abbrev pub owner-at : List Owner → ℕ → Owner
+owner-at os h = getD os h unused-owner
+
+abbrev pub mailbox-at : List Mailbox → ℕ → Mailbox
+mailbox-at ms h = getD ms h empty-mailbox
+
+abbrev pub is-started : Controller → Bool
+is-started k = eqb (k .mode) STARTED
+
+-- What the checks of several calls ask
+
+abbrev pub in-use : Core → ℕ → Bool
+in-use core c = ltb c (core .controller-count)
+
+-- "a configured sending object"
+abbrev pub is-sending : Core → ℕ → Bool
+is-sending core h = ltb h (core .object-count) && not (owner-at (core .owners) h .receiving)
+
+-- the controller that an object belongs to
+abbrev pub controller-of : Core → ℕ → Controller
+controller-of core h = controller-at (core .controllers) (owner-at (core .owners) h .controller)
+
+-- What a call changes
+
+abbrev pub with-controllers : Core → List Controller → Core
+with-controllers core ks =
+    record {
+      initialised = core .initialised;
+      controller-count = core .controller-count;
+      object-count = core .object-count;
+      owners = core .owners;
+      controllers = ks;
+      mailboxes = core .mailboxes;
+    }
+
+abbrev pub with-mailboxes : Core → List Mailbox → Core
+with-mailboxes core ms =
+    record {
+      initialised = core .initialised;
+      controller-count = core .controller-count;
+      object-count = core .object-count;
+      owners = core .owners;
+      controllers = core .controllers;
+      mailboxes = ms;
+    }
+
+-- When a core is valid
+
+-- "mode 1 to 3, a waiting request is permitted from the present mode, off-bus stands only on a STARTED controller"
+abbrev pub controller-valid : Controller → Bool
+controller-valid k =
+    leb STARTED (k .mode) && leb (k .mode) SLEEP
+    && (eqb (k .requested-mode) NO-REQUEST || permitted (k .mode) (k .requested-mode))
+    && (not (k .bus-off) || is-started k)
+
+-- "controller (below the count)"
+abbrev pub owner-valid : ℕ → Owner → Bool
+owner-valid controller-count o = ltb (o .controller) controller-count
+
+-- "occupied only on a configured sending object of a STARTED controller, gone only with occupied, full only on a configured receiving object"
+abbrev pub mailbox-valid : Bool → Bool → Mailbox → Bool
+mailbox-valid receiving started m =
+    (not (m .tx-pending) || not receiving && started)
+    && (not (m .tx-done) || m .tx-pending)
+    && (not (m .rx-full) || receiving)
+
+-- a place in use is valid, any other is at rest
+abbrev pub controller-place-valid : Core → ℕ → Bool
+controller-place-valid core c =
+    cond (ltb c (core .controller-count)) (controller-valid (controller-at (core .controllers) c)) (controller-idle (controller-at (core .controllers) c))
+
+-- so many controllers and objects are in use
+abbrev pub owner-place-valid : ℕ → ℕ → List Owner → ℕ → Bool
+owner-place-valid controller-count object-count os h =
+    cond (ltb h object-count) (owner-valid controller-count (owner-at os h)) (owner-unused (owner-at os h))
+
+abbrev pub mailbox-place-valid : Core → ℕ → Bool
+mailbox-place-valid core h =
+    cond (ltb h (core .object-count))
+    (mailbox-valid (owner-at (core .owners) h .receiving) (is-started (controller-of core h)) (mailbox-at (core .mailboxes) h))
+    (mailbox-empty (mailbox-at (core .mailboxes) h))
+
+-- before Init nothing is in use
+abbrev pub nothing-in-use : Core → Bool
+nothing-in-use core = eqb (core .controller-count) 0 && eqb (core .object-count) 0
+
+module _ (L : Limits) where
+  -- there is a place for each controller and each object
+  abbrev pub has-places : Core → Bool
+  has-places core =
+      eqb (length (core .controllers)) (L .controllers)
+      && eqb (length (core .owners)) (L .objects)
+      && eqb (length (core .mailboxes)) (L .objects)
+
+  -- "controllers (1 to 4), objects n (0 to 32)"
+  abbrev pub counts-valid : ℕ → ℕ → Bool
+  counts-valid controller-count object-count = leb 1 controller-count && leb controller-count (L .controllers) && leb object-count (L .objects)
+
+  abbrev pub owners-valid : ℕ → ℕ → List Owner → Bool
+  owners-valid controller-count object-count os = all-below (L .objects) (owner-place-valid controller-count object-count os)
+
+  -- "uninitialised with everything else at rest ..; or its configuration is one that Init accepts, .. and unused places are at rest": all of
+  -- it but what the configuration says of frames
+  unfoldable pub core-valid : Core → Bool
+  core-valid core =
+      has-places core
+      && cond (core .initialised) (counts-valid (core .controller-count) (core .object-count)) (nothing-in-use core)
+      && owners-valid (core .controller-count) (core .object-count) (core .owners)
+      && all-below (L .controllers) (controller-place-valid core)
+      && all-below (L .objects) (mailbox-place-valid core)
+
+  -- before Init: nothing in use, everything at rest
+  abbrev pub initial-core : Core
+  initial-core =
+      record {
+        initialised = false;
+        controller-count = 0;
+        object-count = 0;
+        owners = replicate (L .objects) unused-owner;
+        controllers = replicate (L .controllers) idle-controller;
+        mailboxes = replicate (L .objects) empty-mailbox;
+      }

@@ -1,0 +1,46 @@
+-- The theorems of laws and history for this chip and this kind of frame: each is the law itself, with nothing proved anew but `Lawful`.
+use native.Mathlib.Omega.{arith}
+use Rattle.laws.specs.WriteRule.{WriteRule}
+use Rattle.laws.proofs.WriteRule.{write-rule}
+use Rattle.history.specs.Claim.{HistoryRule, ReferenceRule}
+use Rattle.history.specs.PollRule.{PollRule}
+use Rattle.history.specs.Demand1.{RefusalRule, ValidRule}
+use Rattle.history.specs.Operators.{OthersRule, ReceivedRule}
+use Rattle.history.proofs.Proved.{demand-3, reference-rule}
+use Rattle.history.proofs.PollRule.{poll-rule}
+use Rattle.history.proofs.Demand1.{refusal-rule, valid-rule}
+use Rattle.history.proofs.Operators.{others-rule, received-rule}
+use Rattle.second_format.specs.Ranged.{ranged-format, small-chip}
+use Rattle.second_format.proofs.Lawful.{ranged-lawful}
+
+-- demand 1: a call that does not return 0 leaves state and memory as they were, and writes its one error record or nothing
+pub ranged-refusal-rule : RefusalRule small-chip ranged-format
+ranged-refusal-rule = refusal-rule small-chip ranged-format
+
+-- a sound state leads only to sound ones
+pub ranged-valid-rule : ValidRule small-chip ranged-format
+ranged-valid-rule = valid-rule small-chip ranged-format ranged-lawful
+
+-- demand 2: which writes are accepted, both ways
+pub ranged-write-rule : WriteRule small-chip ranged-format
+ranged-write-rule = write-rule small-chip ranged-format
+
+-- demand 2: what a write poll reports
+pub ranged-poll-rule : PollRule small-chip ranged-format
+ranged-poll-rule = poll-rule small-chip ranged-format ranged-lawful
+
+-- demand 3: every list of calls, and every first memory
+pub ranged-demand-3 : HistoryRule small-chip ranged-format
+ranged-demand-3 = demand-3 small-chip ranged-format ranged-lawful (omega arith)
+
+-- beside demand 3: waiting requests and marks are those of the reference modes too
+pub ranged-reference-rule : ReferenceRule small-chip ranged-format
+ranged-reference-rule = reference-rule small-chip ranged-format ranged-lawful
+
+-- a poll that stops or takes a controller off the bus leaves every object of the other controllers as it was
+pub ranged-others-rule : OthersRule small-chip ranged-format
+ranged-others-rule = others-rule small-chip ranged-format
+
+-- a received frame survives every poll but the read poll
+pub ranged-received-rule : ReceivedRule small-chip ranged-format
+ranged-received-rule = received-rule small-chip ranged-format

@@ -1,0 +1,4 @@
+-- What holds of the second kind of frame.
+pub mod Lawful
+pub mod Claims
+pub mod Example

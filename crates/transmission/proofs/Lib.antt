@@ -1,2 +1,0 @@
--- Laws of Write.
-pub mod Writes

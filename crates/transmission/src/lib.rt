@@ -1,3 +1,0 @@
-// The service Write.
-pub mod number;
-pub mod write;

@@ -1,2 +1,0 @@
-// The number of this service, which development errors name.
-pub const WRITE: u32 = 0x06;
