@@ -2,10 +2,10 @@
 use crate::frames::mode;
 use crate::print::numbered;
 use crate::state;
-use calls::answer::Answer;
-use calls::request::Function;
+use bench_text::put::put;
 use can::State;
-use text::put::put;
+use can_calls::answer::Answer;
+use can_calls::request::Function;
 
 // What a poll tells stands in the lines under it.
 fn polled(out: &mut [u8], at: usize, notifications: usize) -> usize {

@@ -3,10 +3,10 @@ use crate::frames::identifier;
 use crate::frames::mode;
 use crate::print::count_of;
 use crate::print::numbered;
-use calls::request::Function;
-use calls::request::Request;
-use requests::request::Wanted;
-use text::put::put;
+use bench_requests::request::Wanted;
+use bench_text::put::put;
+use can_calls::request::Function;
+use can_calls::request::Request;
 
 fn set(out: &mut [u8], at: usize, controller: u32, asked: u32) -> usize {
     let mut end = numbered(out, at, b"set controller ", controller as u64);

@@ -3,14 +3,14 @@ use crate::print::hex_or_none;
 use crate::print::numbered;
 use crate::print::right;
 use crate::print::to_column;
+use bench_text::put::put;
+use bench_text::put::put_hexadecimal;
 use can::OBJECT_SIZE;
 use can::OBJECTS;
 use can::RAM_SIZE;
+use can_frame::identifier::is_extended;
+use can_frame::identifier::is_fd;
 use core_layout::head::identifier_at;
-use frame::identifier::is_extended;
-use frame::identifier::is_fd;
-use text::put::put;
-use text::put::put_hexadecimal;
 
 // The identifier word that an object's bytes begin with; 0 where there is no such object.
 pub fn identifier_in(ram: &[u8], object: u32) -> u32 {

@@ -5,15 +5,15 @@ use crate::line;
 use crate::night;
 use crate::night::Night;
 use crate::summary;
+use bench_lines::count::of_bytes;
+use bench_lines::reader;
+use bench_lines::reader::Reader;
+use bench_lines::reader::advanced;
+use bench_script::command::LARGEST_MEMORY;
+use bench_script::command::LARGEST_SHEET;
+use bench_words::bytes::LONGEST_LINE;
+use bench_words::bytes::MOST_BYTES;
 use libc::STDOUT_FILENO;
-use lines::count::of_bytes;
-use lines::reader;
-use lines::reader::Reader;
-use lines::reader::advanced;
-use script::command::LARGEST_MEMORY;
-use script::command::LARGEST_SHEET;
-use words::bytes::LONGEST_LINE;
-use words::bytes::MOST_BYTES;
 
 // A line, and the CR before its LF or the byte that makes a line too long.
 const LINE_ROOM: usize = LONGEST_LINE + 1;

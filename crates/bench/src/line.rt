@@ -11,23 +11,23 @@ use crate::tell::Poll;
 use crate::tell::Told;
 use crate::terse;
 use crate::trouble::message;
-use calls::answer::Answer;
-use calls::perform::Played;
-use calls::perform::perform;
-use calls::request::Request;
-use calls::request::is_bus_off_poll;
+use bench_lines::count::of_bytes;
+use bench_lines::count::of_words;
+use bench_requests::request::Asks;
+use bench_requests::request::Wanted;
+use bench_requests::request::request_of;
+use bench_script::command::Command;
+use bench_script::name::name_of;
+use bench_text::put::put;
+use bench_words::bytes::MOST_BYTES;
+use bench_words::reading::Trouble;
+use bench_words::split::word;
 use can::OBJECTS;
-use lines::count::of_bytes;
-use lines::count::of_words;
-use requests::request::Asks;
-use requests::request::Wanted;
-use requests::request::request_of;
-use script::command::Command;
-use script::name::name_of;
-use text::put::put;
-use words::bytes::MOST_BYTES;
-use words::reading::Trouble;
-use words::split::word;
+use can_calls::answer::Answer;
+use can_calls::perform::Played;
+use can_calls::perform::perform;
+use can_calls::request::Request;
+use can_calls::request::is_bus_off_poll;
 
 // The object that a call laid a frame down in, with the present line for it.
 fn origins_after(origins: [u64; OBJECTS], answer: Answer, line: u64) -> [u64; OBJECTS] {
@@ -292,7 +292,7 @@ pub fn play(
     out: &mut [u8],
     taken: &mut [u8],
 ) -> Night {
-    let command = script::command::read(line, bytes);
+    let command = bench_script::command::read(line, bytes);
     let mut next = night;
     next.line = more(night.line);
     let asks = request_of(command);

@@ -7,9 +7,9 @@ use crate::night::more;
 use crate::night::origin;
 use crate::print::numbered;
 use crate::print::right;
+use bench_text::put::put;
 use can::OBJECTS;
 use core_layout::notification::WORDS;
-use text::put::put;
 
 // The four words of a notification.
 pub struct Notification {

@@ -1,14 +1,14 @@
 // An object's bytes.
 use crate::print::numbered;
+use bench_text::put::put;
+use bench_text::put::put_hex;
+use bench_text::put::put_hexadecimal;
 use can::OBJECT_SIZE;
 use can::OBJECTS;
 use can::RAM_SIZE;
 use core_layout::bytes::number_2;
 use core_layout::bytes::number_4;
 use core_layout::head::HEAD_SIZE;
-use text::put::put;
-use text::put::put_hex;
-use text::put::put_hexadecimal;
 
 // All bytes of an object; none where there is no such object.
 pub fn bytes(memory: &[u8], object: u32) -> &[u8] {

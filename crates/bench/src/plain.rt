@@ -11,13 +11,13 @@ use crate::refused;
 use crate::state;
 use crate::trouble::expected;
 use crate::trouble::message;
-use calls::perform::Played;
+use bench_requests::request::Wanted;
+use bench_script::name::Name;
+use bench_text::put::put;
+use bench_words::reading::Trouble;
 use can::State;
 use can::Verdict;
-use requests::request::Wanted;
-use script::name::Name;
-use text::put::put;
-use words::reading::Trouble;
+use can_calls::perform::Played;
 
 // The column at which answers begin.
 const ANSWER: usize = 58;

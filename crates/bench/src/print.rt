@@ -1,8 +1,8 @@
 // Pieces of a line of output. Each goes to position at of out, and the answer is the position behind it.
-use text::put::put;
-use text::put::put_decimal;
-use text::put::put_hex;
-use text::put::put_repeated;
+use bench_text::put::put;
+use bench_text::put::put_decimal;
+use bench_text::put::put_hex;
+use bench_text::put::put_repeated;
 
 // A number with a word before it.
 pub fn numbered(out: &mut [u8], at: usize, word: &[u8], n: u64) -> usize {

@@ -5,18 +5,18 @@ use crate::night::Night;
 use crate::night::origin;
 use crate::print::count_of;
 use crate::print::numbered;
-use calls::request::Function;
-use calls::request::Request;
+use bench_requests::request::Wanted;
+use bench_text::put::put;
 use can::CONTROLLERS;
 use can::OBJECTS;
 use can::RAM_SIZE;
 use can::Rejection;
 use can::SHEET_SIZE;
 use can::State;
-use frame::identifier::is_fd;
-use frame::length::LONGEST_FD;
-use requests::request::Wanted;
-use text::put::put;
+use can_calls::request::Function;
+use can_calls::request::Request;
+use can_frame::identifier::is_fd;
+use can_frame::length::LONGEST_FD;
 
 // The controller of an object; 0 if there is no such object.
 fn controller_of(state: State, object: u32) -> u64 {

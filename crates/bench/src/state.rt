@@ -3,12 +3,12 @@ use crate::frames::mode;
 use crate::print::count_of;
 use crate::print::numbered;
 use crate::print::right;
+use bench_text::put::put;
 use can::State;
 use core_places::controller::Controller;
 use core_places::mailbox::Mailbox;
 use core_places::owner::Owner;
 use core_places::range::limited;
-use text::put::put;
 
 // How many controllers and objects are configured.
 pub fn in_use(out: &mut [u8], at: usize, controllers: usize, objects: usize) -> usize {

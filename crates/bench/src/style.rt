@@ -1,5 +1,5 @@
 // The style of the output, chosen by an argument.
-use words::split::same;
+use bench_words::split::same;
 
 pub enum Style {
     Plain,

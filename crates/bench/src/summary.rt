@@ -2,8 +2,8 @@
 use crate::night::Tally;
 use crate::print::numbered;
 use crate::print::right;
+use bench_text::put::put;
 use can::State;
-use text::put::put;
 
 // How many frames wait to be sent or confirmed.
 fn waiting(state: State) -> u64 {

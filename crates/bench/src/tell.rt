@@ -8,8 +8,8 @@ use crate::notifications::is_taken;
 use crate::notifications::listed;
 use crate::notifications::notification_at;
 use crate::notifications::told;
+use bench_text::put::has_room;
 use can::OBJECTS;
-use text::put::has_room;
 
 // How far the output and the list of taken frames are filled, and the tally.
 pub struct Told {

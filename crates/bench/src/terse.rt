@@ -3,15 +3,15 @@ use crate::notifications::Notification;
 use crate::notifications::notification_at;
 use crate::print::hex_or_none;
 use crate::print::numbered;
-use calls::answer::Answer;
-use calls::request::Function;
+use bench_text::put::put;
+use bench_text::put::put_decimal;
 use can::State;
 use can::Verdict;
+use can_calls::answer::Answer;
+use can_calls::request::Function;
 use core_places::controller::Controller;
 use core_places::mailbox::Mailbox;
 use core_places::range::limited;
-use text::put::put;
-use text::put::put_decimal;
 
 // The name of a call.
 fn name(out: &mut [u8], at: usize, function: Function) -> usize {

@@ -1,7 +1,7 @@
 // Lines that can't be read.
-use script::name::Name;
-use text::put::put;
-use words::reading::Trouble;
+use bench_script::name::Name;
+use bench_text::put::put;
+use bench_words::reading::Trouble;
 
 // What is wrong with a line.
 pub fn message(out: &mut [u8], at: usize, trouble: Trouble) -> usize {

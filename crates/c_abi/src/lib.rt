@@ -8,7 +8,7 @@ ghost use Rattle.c_abi.specs.Number.{one-or-zero};
 pub extern "C" fn can_fd_wire_length(length: u32) -> u32
     ensures { λ r. ⌜ r ≡ can.wire-length length ⌝ }
 {
-    frame::length::on_wire(length as usize).length as u32
+    can_frame::length::on_wire(length as usize).length as u32
 }
 
 // 1 if a receiving object with this code, mask and payload takes a frame with this identifier, else 0.
@@ -16,5 +16,5 @@ pub extern "C" fn can_fd_wire_length(length: u32) -> u32
 pub extern "C" fn can_filter_accepts(identifier: u32, code: u32, mask: u32, payload: u32) -> u32
     ensures { λ r. ⌜ r ≡ one-or-zero (can.filter-accepts identifier code mask payload) ⌝ }
 {
-    frame::filter::filter_accepts(identifier, code, mask, payload) as u32
+    can_frame::filter::filter_accepts(identifier, code, mask, payload) as u32
 }

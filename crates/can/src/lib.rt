@@ -15,11 +15,11 @@
 // the kind, then object or controller and what goes with it (docs/ARCHITECTURE.md has the table).
 
 // The sizes of this chip.
-pub use chip::CONTROLLERS;
-pub use chip::OBJECT_SIZE;
-pub use chip::OBJECTS;
-pub use chip::RAM_SIZE;
-pub use chip::SHEET_SIZE;
+pub use can_chip::CONTROLLERS;
+pub use can_chip::OBJECT_SIZE;
+pub use can_chip::OBJECTS;
+pub use can_chip::RAM_SIZE;
+pub use can_chip::SHEET_SIZE;
 
 // The driver state, and the state before initialisation.
 pub use can_state::state::State;
@@ -79,4 +79,4 @@ pub use can_events::bus_off_detected::bus_off_detected;
 pub use can_arrivals::frame_arrived::frame_arrived;
 
 // Data of an object: the part of the RAM that holds its data.
-pub use layout::read::data_of;
+pub use can_layout::read::data_of;

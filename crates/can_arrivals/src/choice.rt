@@ -8,10 +8,10 @@ ghost use Rattle.rules.specs.State as rules;
 ghost use Rattle.rules.specs.Can.{can-format, filter-accepts};
 ghost use Rattle.core_places.specs.View.{view-owner};
 ghost use Rattle.can_arrivals.specs.Choice.{Filtered, Compared, Chosen};
+use can_frame::filter::filter_accepts;
 use core_events::pick::Pick;
 use core_events::pick::better;
 use core_places::owner::Owner;
-use frame::filter::filter_accepts;
 
 // The best object so far among the empty ones, and among the full ones.
 pub struct Choice {

@@ -7,11 +7,11 @@ ghost use Rattle.core_answers.specs.Reply.{arrival-reason, arrival-answer};
 ghost use Rattle.core_answers.specs.Performed.{Performed};
 ghost use Rattle.can_state.specs.View.{view};
 use crate::lent::arrive_lent;
+use can_chip::RAM_SIZE;
+use can_chip::SHEET_SIZE;
 use can_state::called::Arrived;
 use can_state::state::State;
 use can_state::validity::valid;
-use chip::RAM_SIZE;
-use chip::SHEET_SIZE;
 use core_answers::gate::full_gate;
 
 // Stores the frame in an object that fits, or answers that none does or that all which do are full. Any controller may be named.

@@ -5,10 +5,10 @@ ghost use mathlib.Core.List.{[], _∷_};
 ghost use Rattle.rules.specs.Reason.{_if_, first-reason, BAD-IDENTIFIER, BAD-LENGTH};
 ghost use Rattle.rules.specs.Can as can;
 ghost use Rattle.core_answers.specs.Answer.{verdict-reason};
+use can_frame::identifier::identifier_good;
+use can_frame::length::is_wire_length;
 use core_answers::rejection::Rejection;
 use core_answers::verdict::Verdict;
-use frame::identifier::identifier_good;
-use frame::length::is_wire_length;
 
 // Whether a frame can come from the bus: its identifier is good, and its length is a wire length of its format.
 pub fn judge_frame(identifier: u32, length: usize) -> Verdict

@@ -19,6 +19,7 @@ ghost use Rattle.core_events.specs.Pick.{view-pick};
 ghost use Rattle.can_arrivals.specs.Choice.{Received};
 ghost use Rattle.can_arrivals.specs.Lent.{ArrivalRoom};
 use crate::choice::choose;
+use can_layout::object::lay_down;
 use core_answers::reply::ArrivalReply;
 use core_answers::reported::ArrivalReported;
 use core_events::pick::Pick;
@@ -26,7 +27,6 @@ use core_events::pick::filled_mailbox;
 use core_layout::notification::Notification;
 use core_layout::notification::put;
 use core_places::store::set_mailbox;
-use layout::object::lay_down;
 
 // The frame is laid down in the object with handle zero, and the object is full. The sheet is not touched.
 fn store(

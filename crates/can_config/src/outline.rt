@@ -11,8 +11,8 @@ ghost use Rattle.rules.specs.Chip as rules;
 use crate::header::HEADER_SIZE;
 use crate::header::header_matches;
 use crate::record::RECORD_SIZE;
-use chip::CONTROLLERS;
-use chip::OBJECTS;
+use can_chip::CONTROLLERS;
+use can_chip::OBJECTS;
 use core_validity::counts::counts_valid;
 
 // The header matches, there are bytes for exactly so many records, and there is a place for each controller and each object. One byte

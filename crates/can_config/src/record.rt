@@ -10,11 +10,11 @@ ghost use Rattle.core_places.specs.View.{view-owner};
 ghost use Rattle.can_state.specs.View.{view-settings};
 ghost use Rattle.can_config.specs.Reading.{Record-read};
 use crate::header::HEADER_SIZE;
+use can_frame::settings::settings_valid;
 use can_state::settings::Settings;
 use core_layout::bytes::number_4;
 use core_places::owner::Owner;
 use core_places::owner::owner_valid;
-use frame::settings::settings_valid;
 
 // Bytes of a record.
 pub const RECORD_SIZE: usize = 12;

@@ -8,7 +8,7 @@ ghost use Rattle.can_config.specs.Reading.{Records-read};
 use crate::record::read_record;
 use crate::setup::Reading;
 use crate::setup::Setup;
-use chip::OBJECTS;
+use can_chip::OBJECTS;
 
 // Reads and judges one record after the other; the places after the last one are at rest.
 pub fn read_records(bytes: &[u8], controller_count: usize, object_count: usize) -> Reading

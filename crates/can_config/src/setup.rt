@@ -5,7 +5,7 @@ ghost use Rattle.rules.specs.Configuration.{no-configuration};
 ghost use Rattle.rules.specs.Can.{can-format};
 ghost use Rattle.rules.specs.Chip as rules;
 ghost use Rattle.can_config.specs.View.{view-setup};
-use chip::OBJECTS;
+use can_chip::OBJECTS;
 
 // How many controllers and objects are in use, and for each object's place what its record says: an array for each field, as the state
 // has them.

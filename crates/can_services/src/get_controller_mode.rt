@@ -7,10 +7,10 @@ ghost use Rattle.rules.specs.Chip.{chip};
 ghost use Rattle.core_answers.specs.Reply.{mode-reason, mode-answer};
 ghost use Rattle.core_answers.specs.Performed.{Performed};
 ghost use Rattle.can_state.specs.View.{view};
+use can_chip::SHEET_SIZE;
 use can_state::called::ModeAsked;
 use can_state::state::State;
 use can_state::validity::valid;
-use chip::SHEET_SIZE;
 use core_answers::gate::sheet_gate;
 
 // Answers the mode of a controller in use.

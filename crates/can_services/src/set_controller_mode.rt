@@ -8,10 +8,10 @@ ghost use Rattle.rules.specs.Chip.{chip};
 ghost use Rattle.core_answers.specs.Answer.{verdict-reason};
 ghost use Rattle.core_answers.specs.Performed.{Performed};
 ghost use Rattle.can_state.specs.View.{view};
+use can_chip::SHEET_SIZE;
 use can_state::called::Called;
 use can_state::state::State;
 use can_state::validity::valid;
-use chip::SHEET_SIZE;
 use core_answers::gate::sheet_gate;
 
 // Has a controller in use wait for a mode that is permitted from its present one.

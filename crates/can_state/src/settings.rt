@@ -34,14 +34,14 @@ pub fn unused_settings() -> Settings
 pub fn settings_valid(receiving: bool, s: Settings) -> bool
     ensures { λ r. ⌜ r ≡ can.settings-valid receiving (view-settings s) ⌝ }
 {
-    frame::settings::settings_valid(receiving, s.payload as u32, s.padding, s.code, s.mask)
+    can_frame::settings::settings_valid(receiving, s.payload as u32, s.padding, s.code, s.mask)
 }
 
 // Whether a place is at rest.
 pub fn settings_unused(s: Settings) -> bool
     ensures { λ r. ⌜ r ≡ can.settings-unused (view-settings s) ⌝ }
 {
-    frame::settings::settings_unused(s.payload as u32, s.padding, s.code, s.mask)
+    can_frame::settings::settings_unused(s.payload as u32, s.padding, s.code, s.mask)
 }
 
 // The settings of object h. Past the last place there are those of a place at rest, so that any number can be asked for.

@@ -5,8 +5,8 @@ ghost use Rattle.rules.specs.State as rules;
 ghost use Rattle.rules.specs.Can.{can-format};
 ghost use Rattle.rules.specs.Chip.{chip};
 ghost use Rattle.can_state.specs.View.{view};
-use chip::CONTROLLERS;
-use chip::OBJECTS;
+use can_chip::CONTROLLERS;
+use can_chip::OBJECTS;
 
 pub struct State {
     pub initialised: bool,

@@ -15,9 +15,9 @@ use Rattle.rules.specs.Services.{write-reason}
 use Rattle.rules.specs.Chip.{chip}
 use Rattle.laws.proofs.Tests.{left}
 use Rattle.laws.proofs.Acceptance.{write-passed}
-use Rattle.layout.specs.Object.{has-room}
-use Rattle.layout.proofs.Lawful.{written-short}
-use Rattle.layout.proofs.Placed.{object-room}
+use Rattle.can_layout.specs.Object.{has-room}
+use Rattle.can_layout.proofs.Lawful.{written-short}
+use Rattle.can_layout.proofs.Placed.{object-room}
 
 pub room-for : (core : Core) (h : ℕ) (s : Settings) (frame : Frame) (ram : List ℕ) → write-reason core h (first-reason (write-checks s frame)) ≡ 0 → core .object-count ≤ chip .objects
     → length ram ≡ ram-size chip → has-room h (length ram) (length (frame .sdu)) ≡ true

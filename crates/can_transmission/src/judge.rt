@@ -4,11 +4,11 @@ ghost use Rattle.rules.specs.Reason.{first-reason};
 ghost use Rattle.rules.specs.Can as can;
 ghost use Rattle.core_answers.specs.Answer.{verdict-reason};
 ghost use Rattle.can_state.specs.View.{view-settings};
+use can_frame::identifier::identifier_good;
+use can_frame::length::length_fits;
 use can_state::settings::Settings;
 use core_answers::rejection::Rejection;
 use core_answers::verdict::Verdict;
-use frame::identifier::identifier_good;
-use frame::length::length_fits;
 
 // Reasons 3 and 34: the data fits the frame's format and the object, and the identifier is good.
 pub fn judge_frame(s: Settings, identifier: u32, sdu: &[u8]) -> Verdict

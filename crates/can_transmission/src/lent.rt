@@ -16,6 +16,7 @@ ghost use Rattle.can_state.specs.View.{view-settings};
 ghost use Rattle.rules.specs.Configuration.{settings-at};
 ghost use Rattle.can_transmission.specs.Lent.{WriteRoom};
 use crate::judge::judge_frame;
+use can_layout::object::lay_down;
 use can_state::settings::Settings;
 use core_answers::reply::WriteReply;
 use core_answers::reported::WriteReported;
@@ -23,7 +24,6 @@ use core_answers::verdict::Verdict;
 use core_services::number::WRITE;
 use core_services::report::report;
 use core_services::write::take_write;
-use layout::object::lay_down;
 
 // The settings are those of the object.
 pub fn write_lent(

@@ -7,12 +7,12 @@ ghost use Rattle.core_answers.specs.Reply.{write-reason, write-answer};
 ghost use Rattle.core_answers.specs.Performed.{Performed};
 ghost use Rattle.can_state.specs.View.{view};
 use crate::lent::write_lent;
+use can_chip::RAM_SIZE;
+use can_chip::SHEET_SIZE;
 use can_state::called::Written;
 use can_state::settings::settings_at;
 use can_state::state::State;
 use can_state::validity::valid;
-use chip::RAM_SIZE;
-use chip::SHEET_SIZE;
 use core_answers::gate::full_gate;
 
 // Lays the frame down whole in a free sending object of a STARTED controller. Any object may be named.

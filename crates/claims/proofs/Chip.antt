@@ -12,7 +12,7 @@ use Rattle.history.proofs.Proved.{demand-3, reference-rule}
 use Rattle.history.proofs.PollRule.{poll-rule}
 use Rattle.history.proofs.Demand1.{refusal-rule, valid-rule}
 use Rattle.history.proofs.Operators.{others-rule, received-rule}
-use Rattle.layout.proofs.Lawful.{can-lawful}
+use Rattle.can_layout.proofs.Lawful.{can-lawful}
 
 -- demand 1: a call that does not return 0 leaves state and memory as they were, and writes its one error record or nothing
 pub chip-refusal-rule : RefusalRule chip can-format

@@ -13,9 +13,9 @@ use crate::number::number;
 use crate::number::small;
 use crate::state::STATE_BYTES;
 use crate::state::state;
-use calls::request::Function;
-use calls::request::Request;
 use can::State;
+use can_calls::request::Function;
+use can_calls::request::Request;
 
 // Bytes of a case before those of its call.
 pub const CASE_BYTES: usize = STATE_BYTES + 21;

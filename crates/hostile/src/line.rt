@@ -11,14 +11,14 @@ use crate::print::answered;
 use crate::print::changes;
 use crate::print::unreadable;
 use crate::same::same;
-use calls::perform::Played;
-use calls::perform::perform;
-use lines::count::of_bytes;
-use lines::count::of_words;
-use words::bytes::LONGEST_LINE;
-use words::bytes::MOST_BYTES;
-use words::reading::Reading;
-use words::split::word;
+use bench_lines::count::of_bytes;
+use bench_lines::count::of_words;
+use bench_words::bytes::LONGEST_LINE;
+use bench_words::bytes::MOST_BYTES;
+use bench_words::reading::Reading;
+use bench_words::split::word;
+use can_calls::perform::Played;
+use can_calls::perform::perform;
 
 // The call, with as much of the memory and the sheet as the case lends.
 fn performed(case: Case, data: &[u8], memory: &mut [u8], sheet: &mut [u32]) -> Played {
@@ -100,7 +100,7 @@ pub fn play(
     if LONGEST_LINE < text.len() {
         return unreadable(out, at, line);
     }
-    let reading = words::bytes::bytes(word(text, 0), bytes);
+    let reading = bench_words::bytes::bytes(word(text, 0), bytes);
     match reading {
         Reading::Unreadable(_) => unreadable(out, at, line),
         Reading::Value(n) => whole(out, at, line, bytes, n as usize, memory, sheet),

@@ -1,8 +1,8 @@
 // The line that a case prints: `LINE CODE REASON ANSWER COUNT STATE MEMORY SHEET`.
-use calls::answer::Answer;
+use bench_text::put::put;
+use bench_text::put::put_decimal;
 use can::Verdict;
-use text::put::put;
-use text::put::put_decimal;
+use can_calls::answer::Answer;
 
 // A number with a word before it.
 fn numbered(out: &mut [u8], at: usize, word: &[u8], n: u64) -> usize {

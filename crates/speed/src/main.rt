@@ -15,10 +15,10 @@ const ROUNDS: u32 = 1000;
 fn rounds() -> u32 {
     let mut buffer = [0u8; 16];
     let count = os::arg(1, &mut buffer);
-    let reading = words::number::number(&buffer[..count]);
+    let reading = bench_words::number::number(&buffer[..count]);
     match reading {
-        words::reading::Reading::Value(n) => n,
-        words::reading::Reading::Unreadable(_) => ROUNDS,
+        bench_words::reading::Reading::Value(n) => n,
+        bench_words::reading::Reading::Unreadable(_) => ROUNDS,
     }
 }
 

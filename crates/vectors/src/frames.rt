@@ -2,8 +2,8 @@
 use crate::out::number;
 use crate::out::text;
 use crate::out::word;
-use frame::identifier::identifier_good;
-use frame::length::on_wire;
+use can_frame::identifier::identifier_good;
+use can_frame::length::on_wire;
 
 fn length(n: usize) {
     let wire = on_wire(n);

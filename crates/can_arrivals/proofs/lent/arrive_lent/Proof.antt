@@ -16,7 +16,7 @@ use Rattle.core_answers.proofs.Laws.{reason-named, refused-performed, noted-non
 use Rattle.core_places.specs.Arrays.{controllers-in}
 use Rattle.core_places.specs.Held.{Controlled}
 use Rattle.core_events.proofs.Laws.{on-bus-read}
-use Rattle.layout.proofs.Lawful.{short-enough}
+use Rattle.can_layout.proofs.Lawful.{short-enough}
 use borrow.Author.Needs.{needs}
 use Rattle.can_arrivals.proofs.lent.arrive_lent.Statement.{statement}
 use Rattle.can_arrivals.proofs.lent.arrive_lent.Tie as tie

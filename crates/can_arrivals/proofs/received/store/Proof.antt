@@ -5,7 +5,7 @@ use Rattle.rules.specs.Reason.{return-code}
 use Rattle.rules.specs.Configuration.{settings-at}
 use Rattle.rules.specs.Can.{Frame, can-format}
 use Rattle.laws.proofs.Sheets.{sheet-none}
-use Rattle.layout.proofs.Placed.{object-room, laid-whole}
+use Rattle.can_layout.proofs.Placed.{object-room, laid-whole}
 use borrow.Author.Needs.{needs}
 use Rattle.can_arrivals.proofs.received.store.Statement.{statement}
 use Rattle.can_arrivals.proofs.received.store.Tie as tie

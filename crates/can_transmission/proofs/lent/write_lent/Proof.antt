@@ -14,7 +14,7 @@ use Rattle.core_answers.specs.Answer.{reason-of, verdict-reason}
 use Rattle.core_answers.proofs.Laws.{reason-named, refused-performed, accepted-performed}
 use Rattle.core_places.specs.Arrays.{core-in}
 use Rattle.core_services.proofs.Laws.{room-then}
-use Rattle.layout.proofs.Placed.{laid-whole}
+use Rattle.can_layout.proofs.Placed.{laid-whole}
 use Rattle.can_transmission.proofs.Writes.{room-for}
 use borrow.Author.Needs.{needs}
 use Rattle.can_transmission.proofs.lent.write_lent.Statement.{statement}

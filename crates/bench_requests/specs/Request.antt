@@ -1,0 +1,34 @@
+-- The call that each command asks for, as docs/BENCH.md has them: the function, and which word of the line it takes as what.
+use Prim.Native.Nat.{ℕ}
+use Rattle.bench_script.specs.declared.command.Command.{Command}
+use Rattle.bench_script.specs.declared.command.Command.the-variants.{Blank, Init, DeInit, Set, Get, Write, PollWrite, PollRead, PollMode, PollBusOff, Sent, BusOff, Arrived, Data, Sheet, Memory, Show, State, Unreadable}
+use Rattle.can_calls.specs.declared.request.Function.the-variants as functions
+use Rattle.can_calls.specs.declared.request.Request.{Request}
+use Rattle.bench_requests.specs.declared.request.Asks.{Asks}
+use Rattle.bench_requests.specs.declared.request.Asks.the-variants.{Call, Other}
+
+-- a call, and how many bytes its line brings: a configuration, or the data of a frame
+abbrev pub call : Request → ℕ → Asks
+call request bytes = Call (record { request = request; length = bytes })
+
+-- the number is the mode asked for or the handle; what a function does not take is 0
+abbrev pub request-of : Command → Asks
+request-of (Init bytes) = call (record { function = functions.Init; controller = 0; object = 0; number = 0; identifier = 0 }) bytes
+request-of DeInit = call (record { function = functions.DeInit; controller = 0; object = 0; number = 0; identifier = 0 }) 0
+request-of (Set c mode) = call (record { function = functions.Set; controller = c; object = 0; number = mode; identifier = 0 }) 0
+request-of (Get c) = call (record { function = functions.Get; controller = c; object = 0; number = 0; identifier = 0 }) 0
+request-of (Write obj handle id bytes) = call (record { function = functions.Write; controller = 0; object = obj; number = handle; identifier = id }) bytes
+request-of PollWrite = call (record { function = functions.PollWrite; controller = 0; object = 0; number = 0; identifier = 0 }) 0
+request-of PollRead = call (record { function = functions.PollRead; controller = 0; object = 0; number = 0; identifier = 0 }) 0
+request-of PollMode = call (record { function = functions.PollMode; controller = 0; object = 0; number = 0; identifier = 0 }) 0
+request-of PollBusOff = call (record { function = functions.PollBusOff; controller = 0; object = 0; number = 0; identifier = 0 }) 0
+request-of (Sent obj) = call (record { function = functions.Sent; controller = 0; object = obj; number = 0; identifier = 0 }) 0
+request-of (BusOff c) = call (record { function = functions.BusOff; controller = c; object = 0; number = 0; identifier = 0 }) 0
+request-of (Arrived c id bytes) = call (record { function = functions.Arrived; controller = c; object = 0; number = 0; identifier = id }) bytes
+request-of Blank = Other
+request-of (Data obj) = Other
+request-of (Sheet n) = Other
+request-of (Memory n) = Other
+request-of (Show obj) = Other
+request-of State = Other
+request-of (Unreadable trouble) = Other

@@ -1,0 +1,77 @@
+// What a command asks for.
+ghost use mathlib.Core.Path.{_≡_};
+ghost use Rattle.bench_requests.specs.Request as requests;
+use bench_script::command::Command;
+use can_calls::request::Function;
+use can_calls::request::Request;
+
+// The call that a command wants, and how many bytes its line brings for it.
+pub struct Wanted {
+    pub request: Request,
+    pub length: u32,
+}
+
+pub enum Asks {
+    Call(Wanted),
+    // No call of the driver.
+    Other,
+}
+
+fn call(
+    function: Function,
+    controller: u32,
+    object: u32,
+    number: u32,
+    identifier: u32,
+    length: u32,
+) -> Asks
+    ensures { λ r. ⌜ r ≡ requests.call (record { function = function; controller = controller; object = object; number = number; identifier = identifier }) length ⌝ }
+{
+    let request = Request {
+        function: function,
+        controller: controller,
+        object: object,
+        number: number,
+        identifier: identifier,
+    };
+    Asks::Call(Wanted {
+        request: request,
+        length: length,
+    })
+}
+
+// What a function does not take is 0.
+pub fn request_of(command: Command) -> Asks
+    ensures { λ r. ⌜ r ≡ requests.request-of command ⌝ }
+{
+    match command {
+        Command::Init { length } => call(Function::Init, 0, 0, 0, 0, length),
+        Command::DeInit => call(Function::DeInit, 0, 0, 0, 0, 0),
+        Command::Set { controller, mode } => call(Function::Set, controller, 0, mode, 0, 0),
+        Command::Get { controller } => call(Function::Get, controller, 0, 0, 0, 0),
+        Command::Write {
+            object,
+            handle,
+            identifier,
+            length,
+        } => call(Function::Write, 0, object, handle, identifier, length),
+        Command::PollWrite => call(Function::PollWrite, 0, 0, 0, 0, 0),
+        Command::PollRead => call(Function::PollRead, 0, 0, 0, 0, 0),
+        Command::PollMode => call(Function::PollMode, 0, 0, 0, 0, 0),
+        Command::PollBusOff => call(Function::PollBusOff, 0, 0, 0, 0, 0),
+        Command::Sent { object } => call(Function::Sent, 0, object, 0, 0, 0),
+        Command::BusOff { controller } => call(Function::BusOff, controller, 0, 0, 0, 0),
+        Command::Arrived {
+            controller,
+            identifier,
+            length,
+        } => call(Function::Arrived, controller, 0, 0, identifier, length),
+        Command::Blank => Asks::Other,
+        Command::Data { object: _ } => Asks::Other,
+        Command::Sheet { words: _ } => Asks::Other,
+        Command::Memory { bytes: _ } => Asks::Other,
+        Command::Show { object: _ } => Asks::Other,
+        Command::State => Asks::Other,
+        Command::Unreadable(_) => Asks::Other,
+    }
+}

@@ -1,0 +1,39 @@
+-- `bench_script::command::init` meets its contract: word 1 says the bytes.
+use mathlib.Core.Path.{refl}
+use Rattle.bench_script.specs.Command.{brought}
+use Rattle.bench_script.specs.declared.command.Command.the-variants.{Init}
+use Rattle.bench_script.proofs.Made.{bringing}
+use borrow.Author.Needs.{needs}
+use Rattle.bench_script.proofs.command.init.Statement.{statement}
+use Rattle.bench_script.proofs.command.init.Tie as tie
+
+word-requires : tie.Need-word-requires
+word-requires c κs = search needs
+
+bytes-requires : tie.Need-bytes-requires
+bytes-requires c κs = search needs
+
+enum-known-reading : tie.Need-enum-known-reading
+enum-known-reading c = search needs
+
+enum-known-reading-2 : tie.Need-enum-known-reading-2
+enum-known-reading-2 c = search needs
+
+returns : tie.Need-returns
+unfolding brought
+returns c = bringing (λ n. Init n) 1 (λ n. refl) (c .before .before .before .before .before .word .ensures) (c .before .before .before .bytes .ensures) (c .before .reading .given .1)
+
+returns-2 : tie.Need-returns-2
+unfolding brought
+returns-2 c = bringing (λ n. Init n) 1 (λ n. refl) (c .before .before .before .before .before .word .ensures) (c .before .before .before .bytes .ensures) (c .before .reading2 .given .1)
+
+pub init-spec : {M : Type 1} → statement M
+init-spec =
+    tie.close
+    (tie.spec
+    word-requires
+    bytes-requires
+    enum-known-reading
+    enum-known-reading-2
+    returns
+    returns-2)

@@ -1,0 +1,50 @@
+-- `bench_script::command::sheet` meets its contract: the command is made of the number that word 1 says, up to the limit.
+use Prim.Native.Nat.{ℕ}
+use mathlib.Core.Path.{ap, _∙_}
+use mathlib.Core.List.{List}
+use Rattle.bench_words.specs.Reading.{number-of, limited-to, largest-sheet}
+use Rattle.bench_words.specs.declared.reading.Trouble.the-variants.{SheetTooLong}
+use Rattle.bench_script.specs.declared.command.Command.the-variants.{Sheet}
+use Rattle.bench_script.proofs.Made.{made}
+use borrow.Author.Needs.{needs}
+use Rattle.bench_script.proofs.command.sheet.Statement.{statement}
+use Rattle.bench_script.proofs.command.sheet.Tie as tie
+
+word-requires : tie.Need-word-requires
+word-requires c κs = search needs
+
+cast-limited : tie.Need-cast-limited
+cast-limited c = search needs
+
+limited-requires : tie.Need-limited-requires
+limited-requires c κs = search needs
+
+enum-known-reading : tie.Need-enum-known-reading
+enum-known-reading c = search needs
+
+enum-known-reading-2 : tie.Need-enum-known-reading-2
+enum-known-reading-2 c = search needs
+
+returns : tie.Need-returns
+returns c =
+    made (λ n. Sheet n)
+    (c .before .before .before .limited .ensures ∙ ap (λ (w : List ℕ). limited-to largest-sheet SheetTooLong (number-of w)) (c .before .before .before .before .word .ensures))
+    (c .before .reading .given .1)
+
+returns-2 : tie.Need-returns-2
+returns-2 c =
+    made (λ n. Sheet n)
+    (c .before .before .before .limited .ensures ∙ ap (λ (w : List ℕ). limited-to largest-sheet SheetTooLong (number-of w)) (c .before .before .before .before .word .ensures))
+    (c .before .reading2 .given .1)
+
+pub sheet-spec : {M : Type 1} → statement M
+sheet-spec =
+    tie.close
+    (tie.spec
+    word-requires
+    cast-limited
+    limited-requires
+    enum-known-reading
+    enum-known-reading-2
+    returns
+    returns-2)

@@ -1,0 +1,36 @@
+-- `bench_text::put::put_hexadecimal` meets its contract: the part of the local array that is written is the digits that `hex` made.
+use borrow.Author.Needs.{needs}
+use Rattle.bench_text.proofs.put.put_hexadecimal.Statement.{statement}
+use Rattle.bench_text.proofs.put.put_hexadecimal.Tie as tie
+
+hex-requires : tie.Need-hex-requires
+hex-requires c κs = search needs
+
+array-share-prefix-digits : tie.Need-array-share-prefix-digits
+array-share-prefix-digits c = search needs
+
+slice-aggregate-put : tie.Need-slice-aggregate-put
+slice-aggregate-put c = search needs
+
+put-requires : tie.Need-put-requires
+put-requires c κs = search needs
+
+same-length : tie.Need-same-length
+same-length c = search needs
+
+returns : tie.Need-returns
+returns c =
+    let wrote = c .before .before in
+    let made = wrote .before .before .before .hex in
+    record { count = made .result; fewest = made .ensures .1 .0; put = rw (made .ensures .1 .1) at (wrote .put .ensures) }
+
+pub put-hexadecimal-spec : {M : Type 1} → statement M
+put-hexadecimal-spec =
+    tie.close
+    (tie.spec
+    hex-requires
+    array-share-prefix-digits
+    slice-aggregate-put
+    put-requires
+    same-length
+    returns)

@@ -1,0 +1,37 @@
+-- Words are separated by spaces or tabs, and # starts a comment.
+use Prim.Native.Nat.{ℕ, zero, suc, _+_, _-_}
+use mathlib.Core.Bool.{Bool, not, cond, _&&_, _||_}
+use mathlib.Core.List.{List, [], _∷_}
+use lib.ListN.{drop}
+use lib.Dec.{eqb}
+use Rattle.rules.specs.Bytes.{part}
+use Rattle.bench_words.specs.declared.split.Span.{Span}
+
+-- a space or a tab
+abbrev pub is-blank : ℕ → Bool
+is-blank b = eqb b 32 || eqb b 9
+
+-- any other byte, but for #, with which a comment begins
+abbrev pub in-word : ℕ → Bool
+in-word b = not (is-blank b) && not (eqb b 35)
+
+-- how many bytes at the start pass the test
+unfoldable pub leading : (ℕ → Bool) → List ℕ → ℕ
+leading p [] = 0
+leading p (b ∷ bs) = cond (p b) (suc (leading p bs)) 0
+
+-- the first word at or after a position: behind the blanks there, up to a blank, a comment or the line's end
+abbrev pub word-from : List ℕ → ℕ → Span
+word-from line start = record { start = start; end = start + leading in-word (drop start line) }
+
+abbrev pub next-word : List ℕ → ℕ → Span
+next-word line at = word-from line (at + leading is-blank (drop at line))
+
+-- where word n stands; each word begins its search where the one before it ends
+unfoldable pub word-at : List ℕ → ℕ → Span
+word-at line zero = next-word line 0
+word-at line (suc n) = next-word line (word-at line n .end)
+
+-- the bytes of word n, none if there is no such word
+unfoldable pub word : ℕ → List ℕ → List ℕ
+word n line = part (word-at line n .start) (word-at line n .end - word-at line n .start) line

@@ -1,0 +1,64 @@
+-- `can_calls::perform::perform` meets its contract: a request of each kind goes to the function of that kind.
+use borrow.Author.Needs.{needs}
+use mathlib.Core.Path.{refl}
+use mathlib.Core.List.{[], _∷_}
+use Rattle.can_calls.specs.Request.{SERVICE, POLL, EVENT}
+use Rattle.can_calls.proofs.Arms.{of-kind}
+use Rattle.can_calls.proofs.perform.perform.Statement.{statement}
+use Rattle.can_calls.proofs.perform.perform.Tie as tie
+
+event-requires : tie.Need-event-requires
+event-requires c κs =
+    of-kind (c .before .before .before .before .before .before .args .request .function) EVENT (9 ∷ 10 ∷ 11 ∷ []) (c .before .before .match .keys1) refl
+
+poll-requires : tie.Need-poll-requires
+poll-requires c κs =
+    of-kind (c .before .before .before .before .before .before .args .request .function) POLL (5 ∷ 6 ∷ 7 ∷ 8 ∷ []) (c .before .before .match .keys2) refl
+
+service-requires : tie.Need-service-requires
+service-requires c κs =
+    of-kind (c .before .before .before .before .before .before .args .request .function) SERVICE (0 ∷ 1 ∷ 2 ∷ 3 ∷ 4 ∷ []) (c .before .before .match .keys3) refl
+
+same-length : tie.Need-same-length
+same-length c = search needs
+
+same-length-2 : tie.Need-same-length-2
+same-length-2 c = search needs
+
+returns : tie.Need-returns
+returns c = search needs
+
+same-length-3 : tie.Need-same-length-3
+same-length-3 c = search needs
+
+same-length-4 : tie.Need-same-length-4
+same-length-4 c = search needs
+
+returns-2 : tie.Need-returns-2
+returns-2 c = search needs
+
+same-length-5 : tie.Need-same-length-5
+same-length-5 c = search needs
+
+same-length-6 : tie.Need-same-length-6
+same-length-6 c = search needs
+
+returns-3 : tie.Need-returns-3
+returns-3 c = search needs
+
+pub perform-spec : {M : Type 1} → statement M
+perform-spec =
+    tie.close
+    (tie.spec
+    event-requires
+    poll-requires
+    service-requires
+    same-length
+    same-length-2
+    returns
+    same-length-3
+    same-length-4
+    returns-2
+    same-length-5
+    same-length-6
+    returns-3)

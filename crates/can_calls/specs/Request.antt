@@ -1,0 +1,79 @@
+-- What a request asks of the driver: the rules' definition of the function that it names.
+use Prim.Native.Nat.{ℕ, _%_}
+use mathlib.Core.Bool.{Bool, true, false}
+use mathlib.Core.List.{List}
+use Rattle.rules.specs.State.{State}
+use Rattle.rules.specs.Outcome.{Outcome}
+use Rattle.rules.specs.Calls as rules
+use Rattle.rules.specs.Can.{Frame, can-format}
+use Rattle.rules.specs.Chip.{chip}
+use Rattle.can_calls.specs.declared.request.Function.{Function}
+use Rattle.can_calls.specs.declared.request.Function.the-variants.{Init, DeInit, Set, Get, Write, PollWrite, PollRead, PollMode, PollBusOff, Sent, BusOff, Arrived}
+use Rattle.can_calls.specs.declared.request.Request.{Request}
+
+-- a handle has 16 bits: of a larger number the low ones are taken
+abbrev pub handle : Request → ℕ
+handle request = request .number % 65536
+
+-- the frame that a write or an arrival brings
+abbrev pub frame : Request → List ℕ → Frame
+frame request bytes = record { identifier = request .identifier; sdu = bytes }
+
+-- what each function makes of the request and its bytes; the number is the length of the sheet
+unfoldable pub outcome-of : Function → Request → List ℕ → State can-format → ℕ → List ℕ → Outcome (State can-format)
+outcome-of Init request bytes s sheet ram = rules.init chip can-format s sheet ram bytes
+outcome-of DeInit request bytes s sheet ram = rules.deinit chip can-format s sheet ram
+outcome-of Set request bytes s sheet ram = rules.set-controller-mode chip can-format s sheet ram (request .controller) (request .number)
+outcome-of Get request bytes s sheet ram = rules.get-controller-mode chip can-format s sheet ram (request .controller)
+outcome-of Write request bytes s sheet ram = rules.write chip can-format s sheet ram (request .object) (handle request) (frame request bytes)
+outcome-of PollWrite request bytes s sheet ram = rules.main-function-write chip can-format s sheet ram
+outcome-of PollRead request bytes s sheet ram = rules.main-function-read chip can-format s sheet ram
+outcome-of PollMode request bytes s sheet ram = rules.main-function-mode chip can-format s sheet ram
+outcome-of PollBusOff request bytes s sheet ram = rules.main-function-bus-off chip can-format s sheet ram
+outcome-of Sent request bytes s sheet ram = rules.tx-complete chip can-format s ram (request .object)
+outcome-of BusOff request bytes s sheet ram = rules.bus-off-detected chip can-format s ram (request .controller)
+outcome-of Arrived request bytes s sheet ram = rules.frame-arrived chip can-format s sheet ram (request .controller) (frame request bytes)
+
+-- what the request's own function makes of it
+abbrev pub outcome : Request → List ℕ → State can-format → ℕ → List ℕ → Outcome (State can-format)
+outcome request bytes s sheet ram = outcome-of (request .function) request bytes s sheet ram
+
+-- the three kinds of call
+abbrev pub SERVICE : ℕ
+SERVICE = 0
+
+abbrev pub POLL : ℕ
+POLL = 1
+
+abbrev pub EVENT : ℕ
+EVENT = 2
+
+-- of which kind a function is
+abbrev pub kind : Function → ℕ
+kind Init = SERVICE
+kind DeInit = SERVICE
+kind Set = SERVICE
+kind Get = SERVICE
+kind Write = SERVICE
+kind PollWrite = POLL
+kind PollRead = POLL
+kind PollMode = POLL
+kind PollBusOff = POLL
+kind Sent = EVENT
+kind BusOff = EVENT
+kind Arrived = EVENT
+
+-- the bus-off poll
+abbrev pub is-bus-off-poll : Function → Bool
+is-bus-off-poll Init = false
+is-bus-off-poll DeInit = false
+is-bus-off-poll Set = false
+is-bus-off-poll Get = false
+is-bus-off-poll Write = false
+is-bus-off-poll PollWrite = false
+is-bus-off-poll PollRead = false
+is-bus-off-poll PollMode = false
+is-bus-off-poll PollBusOff = true
+is-bus-off-poll Sent = false
+is-bus-off-poll BusOff = false
+is-bus-off-poll Arrived = false
