@@ -92,6 +92,9 @@ impl State {
 
     /// Reason 41.
     pub fn check_sound(&self) -> Result<(), Reason> {
+        if cfg!(feature = "trusting") {
+            return Ok(());
+        }
         self.is_sound().then_some(()).ok_or(Reason::NotSound)
     }
 

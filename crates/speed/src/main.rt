@@ -1,7 +1,9 @@
 // Makes the same round of calls over and over, with no input and little output, so that the driver's own cost can be measured.
 //
-//     speed [ROUNDS]
+//     speed [ROUNDS [replay]]     with a second word the rounds are replayed as lists of events
 mod chips;
+mod events;
+mod replayed;
 mod round;
 
 use can::State;
@@ -61,8 +63,18 @@ fn full(rounds: u32) {
     told(b"4 controllers, 32 objects: ", sum);
 }
 
+// Whether there is a second argument.
+fn is_replay() -> bool {
+    let mut buffer = [0u8; 16];
+    os::arg(2, &mut buffer) != 0
+}
+
 fn main() {
     let rounds = rounds();
-    small(rounds);
-    full(rounds);
+    if is_replay() {
+        replayed::rounds(rounds);
+    } else {
+        small(rounds);
+        full(rounds);
+    }
 }

@@ -1,0 +1,70 @@
+-- A list of events in lent arrays, one array for each field, and the calls that it stands for.
+use Prim.Native.Nat.{ℕ, _-_, _%_, _^_, min}
+use mathlib.Core.Bool.{cond, _&&_}
+use mathlib.Core.List.{List, [], _∷_}
+use native.Mathlib.Omega.{arith}
+use lib.ListN.{length, getD}
+use lib.Dec.{leb}
+use Rattle.rules.specs.Repeat.{list-below}
+use Rattle.rules.specs.Bytes.{part}
+use Rattle.rules.specs.Can.{Frame, can-format}
+use Rattle.history.specs.Call.{Call, Init, DeInit, SetControllerMode, GetControllerMode, Write, MainFunctionWrite, MainFunctionRead, MainFunctionMode, MainFunctionBusOff, TxComplete, BusOffDetected, FrameArrived}
+
+-- One event: its kind; its object or controller; its identifier, or the mode asked for; its handle; its bytes.
+-- Every call is handed the same sheet, of which only the length matters.
+module _ (sheet : List ℕ) (place value handle : ℕ) (bytes : List ℕ) where
+  abbrev pub frame : Frame
+  frame = record { identifier = value; sdu = bytes }
+
+  -- a handle has 16 bits
+  abbrev pub write-call : Call can-format
+  write-call = Write sheet place (handle % 2 ^ 16) (omega arith) frame
+
+  -- the kinds from 0 on
+  abbrev pub kinds : List (Call can-format)
+  kinds =
+      Init sheet bytes
+      ∷ DeInit sheet
+      ∷ SetControllerMode sheet place value
+      ∷ GetControllerMode sheet place
+      ∷ write-call
+      ∷ MainFunctionWrite sheet
+      ∷ MainFunctionRead sheet
+      ∷ MainFunctionMode sheet
+      ∷ MainFunctionBusOff sheet
+      ∷ TxComplete place
+      ∷ BusOffDetected place
+      ∷ []
+
+  -- every other kind is an arrival
+  abbrev pub call-of : ℕ → Call can-format
+  call-of kind = getD kinds kind (FrameArrived sheet place frame)
+
+-- the part of all bytes from start to end; none where they have no such part
+abbrev pub bytes-between : ℕ → ℕ → List ℕ → List ℕ
+bytes-between start end all = cond (leb start end && leb end (length all)) (part start (end - start) all) []
+
+pub record Events : Type 0 where
+  pub kinds : List ℕ
+  pub places : List ℕ
+  pub values : List ℕ
+  pub handles : List ℕ
+  pub starts : List ℕ
+  pub ends : List ℕ
+  -- of all events
+  pub bytes : List ℕ
+
+abbrev pub events-in : List ℕ → List ℕ → List ℕ → List ℕ → List ℕ → List ℕ → List ℕ → Events
+events-in kinds places values handles starts ends bytes = record { kinds = kinds; places = places; values = values; handles = handles; starts = starts; ends = ends; bytes = bytes }
+
+-- as many events as every array has
+abbrev pub event-count : Events → ℕ
+event-count e = min (length (e .kinds)) (min (length (e .places)) (min (length (e .values)) (min (length (e .handles)) (min (length (e .starts)) (length (e .ends))))))
+
+abbrev pub call-at : List ℕ → Events → ℕ → Call can-format
+call-at sheet e i =
+    call-of sheet (getD (e .places) i 0) (getD (e .values) i 0) (getD (e .handles) i 0) (bytes-between (getD (e .starts) i 0) (getD (e .ends) i 0) (e .bytes)) (getD (e .kinds) i 0)
+
+-- all of them, in their order
+unfoldable pub calls : List ℕ → Events → List (Call can-format)
+calls sheet e = list-below (event-count e) (call-at sheet e)

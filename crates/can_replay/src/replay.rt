@@ -1,0 +1,278 @@
+// A list of calls, made one after the other.
+ghost use mathlib.Core.Path.{_≡_};
+ghost use mathlib.Core.List.{List};
+ghost use Prim.Native.Nat.{ℕ, _<_};
+ghost use Rattle.rules.specs.Can.{can-format};
+ghost use Rattle.rules.specs.Chip.{chip};
+ghost use Rattle.history.specs.Call.{performed};
+ghost use Rattle.history.specs.Trace.{left-by};
+ghost use Rattle.can_state.specs.View.{view};
+ghost use Rattle.can_replay.specs.Left.{left};
+ghost use Rattle.can_replay.specs.Gathered.{gathered};
+ghost use Rattle.can_replay.specs.Stepped.{Stands, Stepped};
+ghost use Rattle.can_replay.specs.Replayed.{bytes-between, events-in, event-count, call-at, calls};
+use crate::counts::Counts;
+use crate::step::step;
+use can_chip::CONTROLLERS;
+use can_chip::OBJECTS;
+use can_state::state::State;
+use can_state::validity::valid;
+use core_places::range::limited;
+
+// The part of the data from start to end, none where there is no such part.
+fn part(data: &[u8], start: usize, end: usize) -> &[u8]
+    ensures { λ r. ⌜ now r ≡ bytes-between start end (now («data» .entry)) ⌝ }
+{
+    if (start <= end) & (end <= data.len()) {
+        &data[start..end]
+    } else {
+        &data[0..0]
+    }
+}
+
+// As many events as every array has.
+fn event_count(
+    kinds: &[u8],
+    places: &[u32],
+    values: &[u32],
+    handles: &[u16],
+    starts: &[u32],
+    ends: &[u32],
+) -> usize
+    ensures { λ r. ⌜ ((bytes : List ℕ) → r
+        ≡ event-count
+        (events-in (now (kinds .entry)) (now (places .entry)) (now (values .entry)) (now (handles .entry)) (now (starts .entry)) (now (ends .entry)) bytes)) ⌝ }
+{
+    let e = limited(starts.len(), ends.len());
+    let h = limited(handles.len(), e);
+    let v = limited(values.len(), h);
+    let p = limited(places.len(), v);
+    limited(kinds.len(), p)
+}
+
+// Makes the call of event i.
+fn event(
+    i: usize,
+    kinds: &[u8],
+    places: &[u32],
+    values: &[u32],
+    handles: &[u16],
+    starts: &[u32],
+    ends: &[u32],
+    data: &[u8],
+    counts: Counts,
+    modes: &mut [u8; CONTROLLERS],
+    requests: &mut [u8; CONTROLLERS],
+    marks: &mut [bool; CONTROLLERS],
+    owners: &mut [u8; OBJECTS],
+    receivings: &mut [bool; OBJECTS],
+    pendings: &mut [bool; OBJECTS],
+    dones: &mut [bool; OBJECTS],
+    fulls: &mut [bool; OBJECTS],
+    payloads: &mut [u8; OBJECTS],
+    paddings: &mut [u8; OBJECTS],
+    codes: &mut [u32; OBJECTS],
+    masks: &mut [u32; OBJECTS],
+    ram: &mut [u8],
+    sheet: &mut [u32],
+) -> Counts
+    requires { ⌜ i < event-count (events-in (now kinds) (now places) (now values) (now handles) (now starts) (now ends) (now «data»)) ⌝ }
+    requires { ⌜ Stands
+        (gathered counts (now modes) (now requests) (now marks) (now owners) (now receivings) (now pendings) (now dones) (now fulls) (now payloads) (now paddings)
+        (now codes) (now masks)) ⌝ }
+    ensures { λ r. ⌜ Stepped
+        (performed chip can-format
+        (call-at (now (sheet .entry))
+        (events-in (now (kinds .entry)) (now (places .entry)) (now (values .entry)) (now (handles .entry)) (now (starts .entry)) (now (ends .entry))
+        (now («data» .entry))) i)
+        (view
+        (gathered counts (now (modes .entry)) (now (requests .entry)) (now (marks .entry)) (now (owners .entry)) (now (receivings .entry))
+        (now (pendings .entry)) (now (dones .entry)) (now (fulls .entry)) (now (payloads .entry)) (now (paddings .entry)) (now (codes .entry)) (now (masks .entry))))
+        (now (ram .entry)))
+        (gathered r (now (modes .exit)) (now (requests .exit)) (now (marks .exit)) (now (owners .exit)) (now (receivings .exit))
+        (now (pendings .exit)) (now (dones .exit)) (now (fulls .exit)) (now (payloads .exit)) (now (paddings .exit)) (now (codes .exit)) (now (masks .exit)))
+        (now (ram .exit)) ⌝ }
+{
+    let start = starts[i] as usize;
+    let end = ends[i] as usize;
+    let bytes = part(data, start, end);
+    step(
+        kinds[i],
+        places[i],
+        values[i],
+        handles[i],
+        bytes,
+        counts,
+        modes,
+        requests,
+        marks,
+        owners,
+        receivings,
+        pendings,
+        dones,
+        fulls,
+        payloads,
+        paddings,
+        codes,
+        masks,
+        ram,
+        sheet,
+    )
+}
+
+// Makes all calls, each on what the last one left.
+fn play(
+    kinds: &[u8],
+    places: &[u32],
+    values: &[u32],
+    handles: &[u16],
+    starts: &[u32],
+    ends: &[u32],
+    data: &[u8],
+    counts: Counts,
+    modes: &mut [u8; CONTROLLERS],
+    requests: &mut [u8; CONTROLLERS],
+    marks: &mut [bool; CONTROLLERS],
+    owners: &mut [u8; OBJECTS],
+    receivings: &mut [bool; OBJECTS],
+    pendings: &mut [bool; OBJECTS],
+    dones: &mut [bool; OBJECTS],
+    fulls: &mut [bool; OBJECTS],
+    payloads: &mut [u8; OBJECTS],
+    paddings: &mut [u8; OBJECTS],
+    codes: &mut [u32; OBJECTS],
+    masks: &mut [u32; OBJECTS],
+    ram: &mut [u8],
+    sheet: &mut [u32],
+) -> Counts
+    requires { ⌜ Stands
+        (gathered counts (now modes) (now requests) (now marks) (now owners) (now receivings) (now pendings) (now dones) (now fulls) (now payloads) (now paddings)
+        (now codes) (now masks)) ⌝ }
+    ensures { λ r. ⌜ left
+        (view
+        (gathered r (now (modes .exit)) (now (requests .exit)) (now (marks .exit)) (now (owners .exit)) (now (receivings .exit))
+        (now (pendings .exit)) (now (dones .exit)) (now (fulls .exit)) (now (payloads .exit)) (now (paddings .exit)) (now (codes .exit)) (now (masks .exit))))
+        (now (ram .exit))
+        ≡ left-by chip can-format
+        (calls (now (sheet .entry))
+        (events-in (now (kinds .entry)) (now (places .entry)) (now (values .entry)) (now (handles .entry)) (now (starts .entry)) (now (ends .entry))
+        (now («data» .entry))))
+        (view
+        (gathered counts (now (modes .entry)) (now (requests .entry)) (now (marks .entry)) (now (owners .entry)) (now (receivings .entry))
+        (now (pendings .entry)) (now (dones .entry)) (now (fulls .entry)) (now (payloads .entry)) (now (paddings .entry)) (now (codes .entry)) (now (masks .entry))))
+        (now (ram .entry)) ⌝ }
+{
+    let count = event_count(kinds, places, values, handles, starts, ends);
+    let mut last = counts;
+    for i in 0..count {
+        last = event(
+            i,
+            kinds,
+            places,
+            values,
+            handles,
+            starts,
+            ends,
+            data,
+            last,
+            modes,
+            requests,
+            marks,
+            owners,
+            receivings,
+            pendings,
+            dones,
+            fulls,
+            payloads,
+            paddings,
+            codes,
+            masks,
+            ram,
+            sheet,
+        );
+    }
+    last
+}
+
+// Makes all calls from this state. A state that is not valid stays as it is, and so does the memory: every call on it is refused.
+pub fn replay(
+    state: State,
+    kinds: &[u8],
+    places: &[u32],
+    values: &[u32],
+    handles: &[u16],
+    starts: &[u32],
+    ends: &[u32],
+    data: &[u8],
+    ram: &mut [u8],
+    sheet: &mut [u32],
+) -> State
+    ensures { λ r. ⌜ left (view r) (now (ram .exit))
+        ≡ left-by chip can-format
+        (calls (now (sheet .entry))
+        (events-in (now (kinds .entry)) (now (places .entry)) (now (values .entry)) (now (handles .entry)) (now (starts .entry)) (now (ends .entry))
+        (now («data» .entry))))
+        (view state) (now (ram .entry)) ⌝ }
+{
+    if !valid(state) {
+        return state;
+    }
+    let mut modes = state.modes;
+    let mut requests = state.requests;
+    let mut marks = state.marks;
+    let mut owners = state.owners;
+    let mut receivings = state.receivings;
+    let mut pendings = state.pendings;
+    let mut dones = state.dones;
+    let mut fulls = state.fulls;
+    let mut payloads = state.payloads;
+    let mut paddings = state.paddings;
+    let mut codes = state.codes;
+    let mut masks = state.masks;
+    let counts = Counts {
+        initialised: state.initialised,
+        controller_count: state.controller_count,
+        object_count: state.object_count,
+    };
+    let last = play(
+        kinds,
+        places,
+        values,
+        handles,
+        starts,
+        ends,
+        data,
+        counts,
+        &mut modes,
+        &mut requests,
+        &mut marks,
+        &mut owners,
+        &mut receivings,
+        &mut pendings,
+        &mut dones,
+        &mut fulls,
+        &mut payloads,
+        &mut paddings,
+        &mut codes,
+        &mut masks,
+        ram,
+        sheet,
+    );
+    State {
+        initialised: last.initialised,
+        controller_count: last.controller_count,
+        object_count: last.object_count,
+        modes: modes,
+        requests: requests,
+        marks: marks,
+        owners: owners,
+        receivings: receivings,
+        pendings: pendings,
+        dones: dones,
+        fulls: fulls,
+        payloads: payloads,
+        paddings: paddings,
+        codes: codes,
+        masks: masks,
+    }
+}
