@@ -20,15 +20,19 @@ use Rattle.can_arrivals.specs.declared.choice.Choice.{Choice}
 use Rattle.can_arrivals.specs.Choice.{Filtered, Compared, Chosen}
 
 -- an object compared, by what the tests showed
-module _ (h : ℕ) (own accepts full : Bool) (best : Choice) where
-  pub compared-not : own ≡ false → Compared h (own && accepts) full best best
-  compared-not e = rw e (record { empty-is = refl; full-is = refl })
+module _ (h : ℕ) (accepts full : Bool) (best : Choice) where
+  pub compared-full : {r : Choice} → full ≡ true → r .empty ≡ best .empty → r .full ≡ better-pick h accepts 0 (best .full) → Compared h accepts full best r
+  compared-full f p q = rw f (record { empty-is = p ∙ rw (and-false accepts); full-is = q ∙ rw (and-true accepts) })
 
-  pub compared-full : {r : Choice} → own ≡ true → full ≡ true → r .empty ≡ best .empty → r .full ≡ better-pick h accepts 0 (best .full) → Compared h (own && accepts) full best r
-  compared-full e f p q = rw (e, f) (record { empty-is = p ∙ rw (and-false accepts); full-is = q ∙ rw (and-true accepts) })
+  pub compared-empty : {r : Choice} → full ≡ false → r .empty ≡ better-pick h accepts 0 (best .empty) → r .full ≡ best .full → Compared h accepts full best r
+  compared-empty f p q = rw f (record { empty-is = p ∙ rw (and-true accepts); full-is = q ∙ rw (and-false accepts) })
 
-  pub compared-empty : {r : Choice} → own ≡ true → full ≡ false → r .empty ≡ better-pick h accepts 0 (best .empty) → r .full ≡ best .full → Compared h (own && accepts) full best r
-  compared-empty e f p q = rw (e, f) (record { empty-is = p ∙ rw (and-true accepts); full-is = q ∙ rw (and-false accepts) })
+  -- one that belongs to another controller or sends is passed over
+  pub compared-own : (own : Bool) {r r′ : Choice} → own ≡ true → Compared h accepts full best r′ → r ≡ r′ → Compared h (own && accepts) full best r
+  compared-own own e x same = rw (e, same) x
+
+  pub compared-not : (own : Bool) {r : Choice} → own ≡ false → r ≡ best → Compared h (own && accepts) full best r
+  compared-not own e same = rw (e, same) (record { empty-is = refl; full-is = refl })
 
 -- all filters rank alike
 abbrev rank : ℕ → ℕ

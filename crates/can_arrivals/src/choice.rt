@@ -3,15 +3,12 @@ ghost use mathlib.Core.Path.{_≡_};
 ghost use mathlib.Core.List.{List};
 ghost use Prim.Native.Nat.{ℕ, _≤_, _^_};
 ghost use lib.ListN.{length};
-ghost use Rattle.rules.specs.Events.{fits-frame};
 ghost use Rattle.rules.specs.State as rules;
 ghost use Rattle.rules.specs.Can.{can-format, filter-accepts};
-ghost use Rattle.core_places.specs.View.{view-owner};
 ghost use Rattle.can_arrivals.specs.Choice.{Filtered, Compared, Chosen};
 use can_frame::filter::filter_accepts;
 use core_events::pick::Pick;
 use core_events::pick::better;
-use core_places::owner::Owner;
 
 // The best object so far among the empty ones, and among the full ones.
 pub struct Choice {
@@ -22,24 +19,18 @@ pub struct Choice {
 // All filters rank alike.
 const RANK: u32 = 0;
 
-// An object against the best so far. Owner and kind are asked before the filter: most objects belong to another controller or send.
+// An object that the frame may go to, against the best so far.
 fn compare(
     best: Choice,
-    controller: usize,
     identifier: u32,
     object: u32,
-    o: Owner,
     full: bool,
     payload: u8,
     code: u32,
     mask: u32,
 ) -> Choice
-    ensures { λ r. ⌜ Compared object (fits-frame controller (view-owner o) (filter-accepts identifier code mask payload)) full best r ⌝ }
+    ensures { λ r. ⌜ Compared object (filter-accepts identifier code mask payload) full best r ⌝ }
 {
-    let own = o.receiving & (o.controller as usize == controller);
-    if !own {
-        return best;
-    }
     let accepts = filter_accepts(identifier, code, mask, payload as u32);
     let empty = best.empty;
     let taken = best.full;
@@ -56,7 +47,8 @@ fn compare(
     }
 }
 
-// The best objects in use for a frame with this identifier, whatever its data.
+// The best objects in use for a frame with this identifier, whatever its data. Owner and kind are asked before the filter: most objects belong
+// to another controller or send, and then nothing is copied.
 pub fn choose(
     controller: usize,
     identifier: u32,
@@ -79,21 +71,18 @@ pub fn choose(
         full: Pick::Nobody,
     };
     for h in 0..count {
-        let o = Owner {
-            controller: owners[h],
-            receiving: receivings[h],
-        };
-        best = compare(
-            best,
-            controller,
-            identifier,
-            h as u32,
-            o,
-            fulls[h],
-            payloads[h],
-            codes[h],
-            masks[h],
-        );
+        let own = receivings[h] & (owners[h] as usize == controller);
+        if own {
+            best = compare(
+                best,
+                identifier,
+                h as u32,
+                fulls[h],
+                payloads[h],
+                codes[h],
+                masks[h],
+            );
+        }
     }
     best
 }

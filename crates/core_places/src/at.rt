@@ -1,5 +1,7 @@
-// What stands at a place of lent arrays. Past the last place there is what stands at one at rest, so that any number can be asked for.
+// What stands at a place of lent arrays: at one that there is (`read_..`), or at any number, where past the last place there is what stands
+// at one at rest (`.._at`).
 ghost use mathlib.Core.Path.{_≡_};
+ghost use Prim.Native.Nat.{_<_};
 ghost use lib.ListN.{length};
 ghost use Rattle.rules.specs.Core as rules;
 ghost use Rattle.core_places.specs.View.{view-controller, view-owner, view-mailbox};
@@ -11,17 +13,37 @@ use crate::mailbox::empty_mailbox;
 use crate::owner::Owner;
 use crate::owner::unused_owner;
 
+// Controller c, which there is.
+pub fn read_controller(modes: &[u8], requests: &[u8], marks: &[bool], c: usize) -> Controller
+    requires { ⌜ (c < length (now modes)) × Alike (now modes) (now requests) (now marks) ⌝ }
+    ensures { λ r. ⌜ view-controller r ≡ rules.controller-at (controllers-in (now (modes .entry)) (now (requests .entry)) (now (marks .entry))) c ⌝ }
+{
+    Controller {
+        mode: modes[c],
+        requested_mode: requests[c],
+        bus_off: marks[c],
+    }
+}
+
+// The mailbox of object h, which there is.
+pub fn read_mailbox(pendings: &[bool], dones: &[bool], fulls: &[bool], h: usize) -> Mailbox
+    requires { ⌜ (h < length (now pendings)) × Alike (now pendings) (now dones) (now fulls) ⌝ }
+    ensures { λ r. ⌜ view-mailbox r ≡ rules.mailbox-at (mailboxes-in (now (pendings .entry)) (now (dones .entry)) (now (fulls .entry))) h ⌝ }
+{
+    Mailbox {
+        tx_pending: pendings[h],
+        tx_done: dones[h],
+        rx_full: fulls[h],
+    }
+}
+
 // Controller c.
 pub fn controller_at(modes: &[u8], requests: &[u8], marks: &[bool], c: usize) -> Controller
     requires { ⌜ Alike (now modes) (now requests) (now marks) ⌝ }
     ensures { λ r. ⌜ view-controller r ≡ rules.controller-at (controllers-in (now (modes .entry)) (now (requests .entry)) (now (marks .entry))) c ⌝ }
 {
     if c < modes.len() {
-        Controller {
-            mode: modes[c],
-            requested_mode: requests[c],
-            bus_off: marks[c],
-        }
+        read_controller(modes, requests, marks, c)
     } else {
         idle_controller()
     }
@@ -48,11 +70,7 @@ pub fn mailbox_at(pendings: &[bool], dones: &[bool], fulls: &[bool], h: usize) -
     ensures { λ r. ⌜ view-mailbox r ≡ rules.mailbox-at (mailboxes-in (now (pendings .entry)) (now (dones .entry)) (now (fulls .entry))) h ⌝ }
 {
     if h < pendings.len() {
-        Mailbox {
-            tx_pending: pendings[h],
-            tx_done: dones[h],
-            rx_full: fulls[h],
-        }
+        read_mailbox(pendings, dones, fulls, h)
     } else {
         empty_mailbox()
     }

@@ -17,7 +17,7 @@ use crate::turn::entered;
 use crate::turn::leaves_bus;
 use crate::turn::turn_due;
 use crate::turn::turn_note;
-use core_places::at::controller_at;
+use core_places::at::read_controller;
 use core_places::controller::Controller;
 use core_places::store::set_controller;
 use core_sweeps::objects::tell;
@@ -135,7 +135,7 @@ fn turn_one(
         (mailboxes-in (now (pendings .exit)) (now (dones .exit)) (now (fulls .exit)))
         from (now (sheet .entry)) (now (sheet .exit)) r) ⌝ }
 {
-    let k = controller_at(modes, requests, marks, controller);
+    let k = read_controller(modes, requests, marks, controller);
     if turn_due(turn, k) {
         let next = entered(turn, k);
         set_controller(modes, requests, marks, controller, next);

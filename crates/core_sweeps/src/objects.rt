@@ -17,7 +17,7 @@ use crate::visit::visit_due;
 use crate::visit::visit_note;
 use core_layout::notification::Notification;
 use core_layout::notification::put;
-use core_places::at::mailbox_at;
+use core_places::at::read_mailbox;
 use core_places::store::free_mailbox;
 
 // Writes a notification behind the first told ones, and answers how many there are then.
@@ -78,7 +78,7 @@ fn visit_one(
         (mailboxes-in (now (pendings .exit)) (now (dones .exit)) (now (fulls .exit)))
         told (now (sheet .entry)) (now (sheet .exit)) r) ⌝ }
 {
-    let m = mailbox_at(pendings, dones, fulls, object);
+    let m = read_mailbox(pendings, dones, fulls, object);
     if visit_due(visit, owner, m) {
         free_object(
             visit,

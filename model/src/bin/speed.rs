@@ -169,7 +169,7 @@ impl Bench {
     }
 }
 
-/// The rounds as lists of events, and the sum that the driver's program shows too.
+/// The rounds as lists of events, and the sums that the driver's program shows too.
 fn replay(name: &str, bytes: &[u8], rounds: u32) {
     let mut bench = Bench::new(bytes);
     let events = Events::new();
@@ -178,8 +178,9 @@ fn replay(name: &str, bytes: &[u8], rounds: u32) {
             bench.event(std::hint::black_box(&events), i);
         }
     }
-    let sum: u64 = bench.memory.iter().map(|&byte| u64::from(byte)).sum();
-    println!("{name}: {sum} at the end");
+    let memory: u64 = bench.memory.iter().map(|&byte| u64::from(byte)).sum();
+    let sheet: u64 = bench.sheet.iter().map(|&word| u64::from(word)).sum();
+    println!("{name}: memory {memory}, sheet {sheet} at the end");
 }
 
 fn main() {

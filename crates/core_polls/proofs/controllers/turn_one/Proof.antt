@@ -7,8 +7,8 @@ use borrow.Author.Needs.{needs}
 use Rattle.core_polls.proofs.controllers.turn_one.Statement.{statement}
 use Rattle.core_polls.proofs.controllers.turn_one.Tie as tie
 
-controller-at-requires : tie.Need-controller-at-requires
-controller-at-requires c κs = search needs
+read-controller-requires : tie.Need-read-controller-requires
+read-controller-requires c κs = search needs
 
 turn-due-requires : tie.Need-turn-due-requires
 turn-due-requires c κs = search needs
@@ -50,7 +50,7 @@ returns c owned e =
     let a = c .before .before .before .before .before .before .before .before .before .before .before .before .before .before .before .before .before .before .before .before .before .before .before .before .before .before .before .before .before .before .before .before .before .before .before .before .before .before .before .args in
     let ks = controllers-in (a .modes .now) (a .requests .now) (a .marks .now) in
     let ms = mailboxes-in (a .pendings .now) (a .dones .now) (a .fulls .now) in
-    let seen = c .before .before .before .before .before .before .before .before .before .before .before .before .before .before .before .before .before .before .before .before .before .before .before .before .before .before .controller-at .ensures in
+    let seen = c .before .before .before .before .before .before .before .before .before .before .before .before .before .before .before .before .before .before .before .before .before .before .before .before .before .before .read-controller .ensures in
     turned-due (turn-of (a .turn)) (a .size) owned (a .count) (a .ram .now) (a .controller) ks ms
     (rw seen at (sym (c .before .before .before .before .before .before .before .before .before .before .before .before .before .before .before .before .before .before .before .before .before .before .before .before .before .turn-due .ensures) ∙ c .before .before .before .before .before .before .before .before .before .before .before .before .before .before .before .before .before .before .before .before .before .before .before .before .if1 .taken))
     (c .before .before .before .before .before .before .before .before .before .before .before .before .before .before .before .before .before .before .before .set-controller .ensures ∙ rw (c .before .before .before .before .before .before .before .before .before .before .before .before .before .before .before .before .before .before .before .before .before .before .before .entered .ensures, seen))
@@ -71,13 +71,13 @@ returns-2 c owned e =
     let ks = controllers-in (a .modes .now) (a .requests .now) (a .marks .now) in
     let ms = mailboxes-in (a .pendings .now) (a .dones .now) (a .fulls .now) in
     turned-not (turn-of (a .turn)) (a .size) owned (a .count) (a .ram .now) (a .controller) ks ms
-    (rw (c .before .before .controller-at .ensures) at (sym (c .before .turn-due .ensures) ∙ c .if1 .left))
+    (rw (c .before .before .read-controller .ensures) at (sym (c .before .turn-due .ensures) ∙ c .if1 .left))
 
 pub turn-one-spec : {M : Type 1} → statement M
 turn-one-spec =
     tie.close
     (tie.spec
-    controller-at-requires
+    read-controller-requires
     turn-due-requires
     entered-requires
     set-controller-requires

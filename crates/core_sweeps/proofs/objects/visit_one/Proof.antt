@@ -10,8 +10,8 @@ use borrow.Author.Needs.{needs}
 use Rattle.core_sweeps.proofs.objects.visit_one.Statement.{statement}
 use Rattle.core_sweeps.proofs.objects.visit_one.Tie as tie
 
-mailbox-at-requires : tie.Need-mailbox-at-requires
-mailbox-at-requires c κs = search needs
+read-mailbox-requires : tie.Need-read-mailbox-requires
+read-mailbox-requires c κs = search needs
 
 visit-due-requires : tie.Need-visit-due-requires
 visit-due-requires c κs = search needs
@@ -22,7 +22,7 @@ free-object-requires c κs =
     let a = start .args in
     let owners : List Owner = record { controller = a .owner; receiving = false } ∷ [] in
     let due = sym (c .before .before .before .before .before .visit-due .ensures (a .size) (a .two-bytes) owners (a .ram .now) 0 refl) ∙ c .before .before .before .before .if1 .taken in
-    let busy = sym (ap mailbox-busy (c .before .before .before .before .before .before .mailbox-at .ensures)) ∙ visit-frees (a .visit) (a .size) (a .two-bytes) owners (a .ram .now) 0 _ due in
+    let busy = sym (ap mailbox-busy (c .before .before .before .before .before .before .read-mailbox .ensures)) ∙ visit-frees (a .visit) (a .size) (a .two-bytes) owners (a .ram .now) 0 _ due in
     (start .pre .0, (start .pre .1 .0, start .pre .1 .1 busy))
 
 same-length : tie.Need-same-length
@@ -42,7 +42,7 @@ returns c owners e =
     let start = c .before .before .before .before .before .before .before .before .before .before .before .before .before .before .before .before .before .before .before .before .before .before .before .before in
     let a = start .args in
     visited-freed (visit-of (a .visit) (a .size) (a .two-bytes)) owners (a .ram .now) (a .object) _ (c .before .before .before .before .before .before .before .before .free-object .ensures)
-    (rw (c .before .before .before .before .before .before .before .before .before .before .before .before .before .before .before .mailbox-at .ensures) at (sym (c .before .before .before .before .before .before .before .before .before .before .before .before .before .before .visit-due .ensures (a .size) (a .two-bytes) owners (a .ram .now) (a .object) e) ∙ c .before .before .before .before .before .before .before .before .before .before .before .before .before .if1 .taken))
+    (rw (c .before .before .before .before .before .before .before .before .before .before .before .before .before .before .before .read-mailbox .ensures) at (sym (c .before .before .before .before .before .before .before .before .before .before .before .before .before .before .visit-due .ensures (a .size) (a .two-bytes) owners (a .ram .now) (a .object) e) ∙ c .before .before .before .before .before .before .before .before .before .before .before .before .before .if1 .taken))
 
 same-length-5 : tie.Need-same-length-5
 same-length-5 c = search needs
@@ -58,13 +58,13 @@ returns-2 c owners e =
     let start = c .before .before .before .before .before .before .before .before .before .before .before in
     let a = start .args in
     visited-not (visit-of (a .visit) (a .size) (a .two-bytes) owners (a .ram .now)) (a .object) _
-    (rw (c .before .before .mailbox-at .ensures) at (sym (c .before .visit-due .ensures (a .size) (a .two-bytes) owners (a .ram .now) (a .object) e) ∙ c .if1 .left))
+    (rw (c .before .before .read-mailbox .ensures) at (sym (c .before .visit-due .ensures (a .size) (a .two-bytes) owners (a .ram .now) (a .object) e) ∙ c .if1 .left))
 
 pub visit-one-spec : {M : Type 1} → statement M
 visit-one-spec =
     tie.close
     (tie.spec
-    mailbox-at-requires
+    read-mailbox-requires
     visit-due-requires
     free-object-requires
     same-length
