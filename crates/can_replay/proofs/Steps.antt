@@ -9,13 +9,12 @@ use Rattle.rules.specs.State as rules
 use Rattle.rules.specs.Can.{can-format}
 use Rattle.rules.specs.Chip.{chip}
 use Rattle.history.specs.Call.{Call, performed}
-use Rattle.history.specs.Trace.{Left}
 use Rattle.history.proofs.Demand1.{valid-rule}
 use Rattle.can_layout.proofs.Lawful.{can-lawful}
 use Rattle.can_state.specs.declared.state.State.{State}
 use Rattle.can_state.specs.View.{view}
 use Rattle.can_state.specs.Sizes.{Sized}
-use Rattle.can_replay.specs.Left.{left, left-of}
+use Rattle.can_replay.specs.Left.{Left, left, left-of}
 use Rattle.can_replay.specs.Places.{Places}
 use Rattle.can_replay.specs.Stepped.{Stands, Stepped}
 use Rattle.can_replay.specs.Replayed.{kinds, call-of}
@@ -81,28 +80,25 @@ beyond n0 n1 n2 n3 n4 n5 n6 n7 n8 n9 n10 =
 
 -- the event, the state before it, and the memory
 module _ (sheet : List ℕ) (place value handle : ℕ) (bytes : List ℕ) (s : State) (ram : List ℕ) (ready : Stands s) where
-  abbrev by : Call can-format → Left can-format
-  by call = left-of (performed chip can-format call (view s) ram)
+  abbrev by : Call can-format → Left
+  by call = left-of (performed chip can-format call (view s) ram) sheet
 
   -- a call that leaves what the rules say leaves a valid state
-  stepped : (call : Call can-format) {next : State} {ram′ : List ℕ} → left (view next) ram′ ≡ by call → Sized next → Stepped (performed chip can-format call (view s) ram) next ram′
+  stepped : (call : Call can-format) {next : State} {ram′ sheet′ : List ℕ} → left (view next) ram′ sheet′ ≡ by call → Sized next → Stepped (by call) next ram′ sheet′
   stepped call e sized =
       record {
         left-is = e;
-        stands = record { sized = sized; sound = ap (λ (l : Left can-format). rules.valid chip can-format (l .state)) e ∙ valid-rule chip can-format can-lawful call (view s) ram (ready .sound) };
+        stands = record { sized = sized; sound = ap (λ (l : Left). rules.valid chip can-format (l .state)) e ∙ valid-rule chip can-format can-lawful call (view s) ram (ready .sound) };
       }
 
   abbrev call : ℕ → Call can-format
   call kind = call-of sheet place value handle bytes kind
 
-  abbrev Made : ℕ → State → List ℕ → Type 0
-  Made kind next ram′ = Stepped (performed chip can-format (call kind) (view s) ram) next ram′
-
   -- the kind has a number of its own
-  pub made : {kind : ℕ} (k : ℕ) → kind ≡ k → {next : State} {ram′ : List ℕ} → left (view next) ram′ ≡ by (call k) → Sized next → Made kind next ram′
-  made {kind} k e left-is sized = stepped (call kind) (left-is ∙ ap (λ (i : ℕ). by (call i)) (sym e)) sized
+  pub made-by : {kind : ℕ} (k : ℕ) → kind ≡ k → {next : State} {ram′ sheet′ : List ℕ} → left (view next) ram′ sheet′ ≡ by (call k) → Sized next → Stepped (by (call kind)) next ram′ sheet′
+  made-by {kind} k e left-is sized = stepped (call kind) (left-is ∙ ap (λ (i : ℕ). by (call i)) (sym e)) sized
 
   -- or has none
-  pub made-otherwise : {kind : ℕ} → 11 ≤ kind → {next : State} {ram′ : List ℕ} → left (view next) ram′ ≡ by (call 11) → Sized next → Made kind next ram′
+  pub made-otherwise : {kind : ℕ} → 11 ≤ kind → {next : State} {ram′ sheet′ : List ℕ} → left (view next) ram′ sheet′ ≡ by (call 11) → Sized next → Stepped (by (call kind)) next ram′ sheet′
   made-otherwise {kind} past left-is sized =
       stepped (call kind) (left-is ∙ ap by (sym (List·getD-eq-default (kinds sheet place value handle bytes) _ past))) sized

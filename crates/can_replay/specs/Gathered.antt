@@ -3,14 +3,13 @@ use Prim.Native.Nat.{ℕ}
 use mathlib.Core.Bool.{Bool}
 use mathlib.Core.List.{List}
 use Rattle.can_state.specs.declared.state.State.{State}
-use Rattle.can_replay.specs.declared.counts.Counts.{Counts}
 
-abbrev pub gathered : Counts → List ℕ → List ℕ → List Bool → List ℕ → List Bool → List Bool → List Bool → List Bool → List ℕ → List ℕ → List ℕ → List ℕ → State
-gathered counts modes requests marks owners receivings pendings dones fulls payloads paddings codes masks =
+abbrev pub gathered : Bool → ℕ → ℕ → List ℕ → List ℕ → List Bool → List ℕ → List Bool → List Bool → List Bool → List Bool → List ℕ → List ℕ → List ℕ → List ℕ → State
+gathered initialised controller-count object-count modes requests marks owners receivings pendings dones fulls payloads paddings codes masks =
     record {
-      initialised = counts .initialised;
-      «controller_count» = counts .«controller_count»;
-      «object_count» = counts .«object_count»;
+      initialised = initialised;
+      «controller_count» = controller-count;
+      «object_count» = object-count;
       modes = modes;
       requests = requests;
       marks = marks;

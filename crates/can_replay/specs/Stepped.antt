@@ -4,20 +4,19 @@ use mathlib.Core.Path.{_≡_}
 use mathlib.Core.Bool.{true}
 use mathlib.Core.List.{List}
 use Rattle.rules.specs.State as rules
-use Rattle.rules.specs.Outcome.{Outcome}
 use Rattle.rules.specs.Can.{can-format}
 use Rattle.rules.specs.Chip.{chip}
 use Rattle.can_state.specs.declared.state.State.{State}
 use Rattle.can_state.specs.View.{view}
 use Rattle.can_state.specs.Sizes.{Sized}
-use Rattle.can_replay.specs.Left.{left, left-of}
+use Rattle.can_replay.specs.Left.{Left, left}
 
 -- a valid state, of the chip's size
 pub record Stands (s : State) : Type 0 where
   pub sized : Sized s
   pub sound : rules.valid chip can-format (view s) ≡ true
 
--- a call was made: state and memory are those of the outcome, and the state is valid again
-pub record Stepped (o : Outcome (rules.State can-format)) (s : State) (ram : List ℕ) : Type 0 where
-  pub left-is : left (view s) ram ≡ left-of o
+-- a call was made: state, memory and sheet are what it leaves, and the state is valid again
+pub record Stepped (l : Left) (s : State) (ram sheet : List ℕ) : Type 0 where
+  pub left-is : left (view s) ram sheet ≡ l
   pub stands : Stands s

@@ -33,12 +33,12 @@ pub fn sent(
 )
     requires { ⌜ («object_count» ≤ chip .objects) × Places (chip .controllers) (now modes) (now requests) (now marks)
         × (length (now owners) ≡ chip .objects) × (length (now receivings) ≡ chip .objects) × Places (chip .objects) (now pendings) (now dones) (now fulls) ⌝ }
-    ensures left { λ _. ⌜ ((s : rules.State can-format) (ram : List ℕ) → rules.valid chip can-format s ≡ true
+    ensures left { λ _. ⌜ ((s : rules.State can-format) (ram sheet : List ℕ) → rules.valid chip can-format s ≡ true
         → Held (s .core) initialised «object_count» (owners-in (now (owners .entry)) (now (receivings .entry)))
         (controllers-in (now (modes .entry)) (now (requests .entry)) (now (marks .entry)))
         (mailboxes-in (now (pendings .entry)) (now (dones .entry)) (now (fulls .entry)))
-        → left (rules.with-core s (with-mailboxes (s .core) (mailboxes-in (now (pendings .exit)) (now (dones .exit)) (now (fulls .exit))))) ram
-        ≡ left-of (calls.tx-complete chip can-format s ram object)) ⌝ }
+        → left (rules.with-core s (with-mailboxes (s .core) (mailboxes-in (now (pendings .exit)) (now (dones .exit)) (now (fulls .exit))))) ram sheet
+        ≡ left-of (calls.tx-complete chip can-format s ram object) sheet) ⌝ }
     ensures places { λ _. ⌜ Places (chip .objects) (now (pendings .exit)) (now (dones .exit)) (now (fulls .exit)) ⌝ }
 {
     let gate = state_gate(true);
@@ -68,10 +68,10 @@ pub fn off(
     controller: u32,
 )
     requires { ⌜ («controller_count» ≤ chip .controllers) × Places (chip .controllers) (now modes) (now requests) (now marks) ⌝ }
-    ensures left { λ _. ⌜ ((s : rules.State can-format) (ram : List ℕ) → rules.valid chip can-format s ≡ true
+    ensures left { λ _. ⌜ ((s : rules.State can-format) (ram sheet : List ℕ) → rules.valid chip can-format s ≡ true
         → Controlled (s .core) initialised «controller_count» (controllers-in (now (modes .entry)) (now (requests .entry)) (now (marks .entry)))
-        → left (rules.with-core s (with-controllers (s .core) (controllers-in (now (modes .exit)) (now (requests .exit)) (now (marks .exit))))) ram
-        ≡ left-of (calls.bus-off-detected chip can-format s ram controller)) ⌝ }
+        → left (rules.with-core s (with-controllers (s .core) (controllers-in (now (modes .exit)) (now (requests .exit)) (now (marks .exit))))) ram sheet
+        ≡ left-of (calls.bus-off-detected chip can-format s ram controller) sheet) ⌝ }
     ensures places { λ _. ⌜ Places (chip .controllers) (now (modes .exit)) (now (requests .exit)) (now (marks .exit)) ⌝ }
 {
     let gate = state_gate(true);

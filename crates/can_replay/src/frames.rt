@@ -53,9 +53,10 @@ pub fn write(
         (controllers-in (now (modes .entry)) (now (requests .entry)) (now (marks .entry)))
         (mailboxes-in (now (pendings .entry)) (now (dones .entry)) (now (fulls .entry)))
         → s .settings ≡ settings-in (now (payloads .entry)) (now (paddings .entry)) (now (codes .entry)) (now (masks .entry))
-        → left (rules.with-core s (with-mailboxes (s .core) (mailboxes-in (now (pendings .exit)) (now (dones .exit)) (now (fulls .exit))))) (now (ram .exit))
+        → left (rules.with-core s (with-mailboxes (s .core) (mailboxes-in (now (pendings .exit)) (now (dones .exit)) (now (fulls .exit))))) (now (ram .exit)) (now (sheet .exit))
         ≡ left-of
-        (calls.write chip can-format s (length (now (sheet .entry))) (now (ram .entry)) object handle (record { identifier = identifier; sdu = now (sdu .entry) }))) ⌝ }
+        (calls.write chip can-format s (length (now (sheet .entry))) (now (ram .entry)) object handle (record { identifier = identifier; sdu = now (sdu .entry) }))
+        (now (sheet .entry))) ⌝ }
     ensures places { λ _. ⌜ Places (chip .objects) (now (pendings .exit)) (now (dones .exit)) (now (fulls .exit)) ⌝ }
 {
     let gate = full_gate(true, sheet.len(), SHEET_SIZE, ram.len(), RAM_SIZE);
@@ -114,9 +115,10 @@ pub fn arrive(
         (controllers-in (now (modes .entry)) (now (requests .entry)) (now (marks .entry)))
         (mailboxes-in (now (pendings .entry)) (now (dones .entry)) (now (fulls .entry)))
         → s .settings ≡ settings-in (now (payloads .entry)) (now (paddings .entry)) (now (codes .entry)) (now (masks .entry))
-        → left (rules.with-core s (with-mailboxes (s .core) (mailboxes-in (now (pendings .exit)) (now (dones .exit)) (now (fulls .exit))))) (now (ram .exit))
+        → left (rules.with-core s (with-mailboxes (s .core) (mailboxes-in (now (pendings .exit)) (now (dones .exit)) (now (fulls .exit))))) (now (ram .exit)) (now (sheet .exit))
         ≡ left-of
-        (calls.frame-arrived chip can-format s (length (now (sheet .entry))) (now (ram .entry)) controller (record { identifier = identifier; sdu = now (sdu .entry) }))) ⌝ }
+        (calls.frame-arrived chip can-format s (length (now (sheet .entry))) (now (ram .entry)) controller (record { identifier = identifier; sdu = now (sdu .entry) }))
+        (now (sheet .entry))) ⌝ }
     ensures places { λ _. ⌜ Places (chip .objects) (now (pendings .exit)) (now (dones .exit)) (now (fulls .exit)) ⌝ }
 {
     let gate = full_gate(true, sheet.len(), SHEET_SIZE, ram.len(), RAM_SIZE);

@@ -19,7 +19,6 @@
 //     any other: FrameArrived          controller, identifier, bytes
 //
 // As many events are made as every array has. Bytes that do not lie within the data are none.
-mod counts;
 mod events;
 mod frames;
 mod polls;

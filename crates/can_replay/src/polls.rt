@@ -43,11 +43,12 @@ pub fn objects(
     ensures left { λ _. ⌜ ((s : rules.State can-format) → rules.valid chip can-format s ≡ true
         → Holds (s .core) (s .core .controller-count) «object_count» (now (owners .entry)) (s .core .controllers)
         (mailboxes-in (now (pendings .entry)) (now (dones .entry)) (now (fulls .entry)))
-        → left (rules.with-core s (with-mailboxes (s .core) (mailboxes-in (now (pendings .exit)) (now (dones .exit)) (now (fulls .exit))))) (now (ram .entry))
+        → left (rules.with-core s (with-mailboxes (s .core) (mailboxes-in (now (pendings .exit)) (now (dones .exit)) (now (fulls .exit))))) (now (ram .entry)) (now (sheet .exit))
         ≡ left-of
         (outcomes.lifted s
         (objects-polled (full-gate chip can-format s (length (now (sheet .entry))) (now (ram .entry)))
-        (visit-of visit (chip .object-size) false (s .core .owners) (now (ram .entry))) (s .core) (now (ram .entry))))) ⌝ }
+        (visit-of visit (chip .object-size) false (s .core .owners) (now (ram .entry))) (s .core) (now (ram .entry))))
+        (now (sheet .entry))) ⌝ }
     ensures places { λ _. ⌜ Places (chip .objects) (now (pendings .exit)) (now (dones .exit)) (now (fulls .exit)) ⌝ }
 {
     let gate = full_gate(true, sheet.len(), SHEET_SIZE, ram.len(), RAM_SIZE);
@@ -90,11 +91,12 @@ pub fn controllers(
         → left
         (rules.with-core s
         (with-mailboxes (with-controllers (s .core) (controllers-in (now (modes .exit)) (now (requests .exit)) (now (marks .exit))))
-        (mailboxes-in (now (pendings .exit)) (now (dones .exit)) (now (fulls .exit))))) (now (ram .entry))
+        (mailboxes-in (now (pendings .exit)) (now (dones .exit)) (now (fulls .exit))))) (now (ram .entry)) (now (sheet .exit))
         ≡ left-of
         (outcomes.lifted s
         (controllers-polled (full-gate chip can-format s (length (now (sheet .entry))) (now (ram .entry))) (chip .object-size) (turn-of turn) (s .core)
-        (now (ram .entry))))) ⌝ }
+        (now (ram .entry))))
+        (now (sheet .entry))) ⌝ }
     ensures places { λ _. ⌜ Places (chip .controllers) (now (modes .exit)) (now (requests .exit)) (now (marks .exit))
         × Places (chip .objects) (now (pendings .exit)) (now (dones .exit)) (now (fulls .exit)) ⌝ }
 {

@@ -2,16 +2,11 @@
 ghost use mathlib.Core.Path.{_≡_};
 ghost use mathlib.Core.List.{List};
 ghost use Prim.Native.Nat.{ℕ, _<_};
-ghost use Rattle.rules.specs.Can.{can-format};
-ghost use Rattle.rules.specs.Chip.{chip};
-ghost use Rattle.history.specs.Call.{performed};
-ghost use Rattle.history.specs.Trace.{left-by};
 ghost use Rattle.can_state.specs.View.{view};
 ghost use Rattle.can_replay.specs.Left.{left};
 ghost use Rattle.can_replay.specs.Gathered.{gathered};
 ghost use Rattle.can_replay.specs.Stepped.{Stands, Stepped};
-ghost use Rattle.can_replay.specs.Replayed.{bytes-between, events-in, event-count, call-at, calls};
-use crate::counts::Counts;
+ghost use Rattle.can_replay.specs.Replayed.{bytes-between, events-in, event-count, made, replayed};
 use crate::step::step;
 use can_chip::CONTROLLERS;
 use can_chip::OBJECTS;
@@ -60,7 +55,9 @@ fn event(
     starts: &[u32],
     ends: &[u32],
     data: &[u8],
-    counts: Counts,
+    initialised: &mut bool,
+    controller_count: &mut usize,
+    object_count: &mut usize,
     modes: &mut [u8; CONTROLLERS],
     requests: &mut [u8; CONTROLLERS],
     marks: &mut [bool; CONTROLLERS],
@@ -75,23 +72,23 @@ fn event(
     masks: &mut [u32; OBJECTS],
     ram: &mut [u8],
     sheet: &mut [u32],
-) -> Counts
+)
     requires { ⌜ i < event-count (events-in (now kinds) (now places) (now values) (now handles) (now starts) (now ends) (now «data»)) ⌝ }
     requires { ⌜ Stands
-        (gathered counts (now modes) (now requests) (now marks) (now owners) (now receivings) (now pendings) (now dones) (now fulls) (now payloads) (now paddings)
+        (gathered (now initialised) (now «controller_count») (now «object_count») (now modes) (now requests) (now marks) (now owners) (now receivings) (now pendings) (now dones) (now fulls) (now payloads) (now paddings)
         (now codes) (now masks)) ⌝ }
-    ensures { λ r. ⌜ Stepped
-        (performed chip can-format
-        (call-at (now (sheet .entry))
+    ensures { λ _. ⌜ Stepped
+        (made
         (events-in (now (kinds .entry)) (now (places .entry)) (now (values .entry)) (now (handles .entry)) (now (starts .entry)) (now (ends .entry))
-        (now («data» .entry))) i)
+        (now («data» .entry))) i
+        (left
         (view
-        (gathered counts (now (modes .entry)) (now (requests .entry)) (now (marks .entry)) (now (owners .entry)) (now (receivings .entry))
+        (gathered (now (initialised .entry)) (now («controller_count» .entry)) (now («object_count» .entry)) (now (modes .entry)) (now (requests .entry)) (now (marks .entry)) (now (owners .entry)) (now (receivings .entry))
         (now (pendings .entry)) (now (dones .entry)) (now (fulls .entry)) (now (payloads .entry)) (now (paddings .entry)) (now (codes .entry)) (now (masks .entry))))
-        (now (ram .entry)))
-        (gathered r (now (modes .exit)) (now (requests .exit)) (now (marks .exit)) (now (owners .exit)) (now (receivings .exit))
+        (now (ram .entry)) (now (sheet .entry))))
+        (gathered (now (initialised .exit)) (now («controller_count» .exit)) (now («object_count» .exit)) (now (modes .exit)) (now (requests .exit)) (now (marks .exit)) (now (owners .exit)) (now (receivings .exit))
         (now (pendings .exit)) (now (dones .exit)) (now (fulls .exit)) (now (payloads .exit)) (now (paddings .exit)) (now (codes .exit)) (now (masks .exit)))
-        (now (ram .exit)) ⌝ }
+        (now (ram .exit)) (now (sheet .exit)) ⌝ }
 {
     let start = starts[i] as usize;
     let end = ends[i] as usize;
@@ -102,7 +99,9 @@ fn event(
         values[i],
         handles[i],
         bytes,
-        counts,
+        initialised,
+        controller_count,
+        object_count,
         modes,
         requests,
         marks,
@@ -117,7 +116,7 @@ fn event(
         masks,
         ram,
         sheet,
-    )
+    );
 }
 
 // Makes all calls, each on what the last one left.
@@ -129,7 +128,9 @@ fn play(
     starts: &[u32],
     ends: &[u32],
     data: &[u8],
-    counts: Counts,
+    initialised: &mut bool,
+    controller_count: &mut usize,
+    object_count: &mut usize,
     modes: &mut [u8; CONTROLLERS],
     requests: &mut [u8; CONTROLLERS],
     marks: &mut [bool; CONTROLLERS],
@@ -144,28 +145,27 @@ fn play(
     masks: &mut [u32; OBJECTS],
     ram: &mut [u8],
     sheet: &mut [u32],
-) -> Counts
+)
     requires { ⌜ Stands
-        (gathered counts (now modes) (now requests) (now marks) (now owners) (now receivings) (now pendings) (now dones) (now fulls) (now payloads) (now paddings)
+        (gathered (now initialised) (now «controller_count») (now «object_count») (now modes) (now requests) (now marks) (now owners) (now receivings) (now pendings) (now dones) (now fulls) (now payloads) (now paddings)
         (now codes) (now masks)) ⌝ }
-    ensures { λ r. ⌜ left
+    ensures { λ _. ⌜ left
         (view
-        (gathered r (now (modes .exit)) (now (requests .exit)) (now (marks .exit)) (now (owners .exit)) (now (receivings .exit))
+        (gathered (now (initialised .exit)) (now («controller_count» .exit)) (now («object_count» .exit)) (now (modes .exit)) (now (requests .exit)) (now (marks .exit)) (now (owners .exit)) (now (receivings .exit))
         (now (pendings .exit)) (now (dones .exit)) (now (fulls .exit)) (now (payloads .exit)) (now (paddings .exit)) (now (codes .exit)) (now (masks .exit))))
-        (now (ram .exit))
-        ≡ left-by chip can-format
-        (calls (now (sheet .entry))
+        (now (ram .exit)) (now (sheet .exit))
+        ≡ replayed
         (events-in (now (kinds .entry)) (now (places .entry)) (now (values .entry)) (now (handles .entry)) (now (starts .entry)) (now (ends .entry))
-        (now («data» .entry))))
+        (now («data» .entry)))
+        (left
         (view
-        (gathered counts (now (modes .entry)) (now (requests .entry)) (now (marks .entry)) (now (owners .entry)) (now (receivings .entry))
+        (gathered (now (initialised .entry)) (now («controller_count» .entry)) (now («object_count» .entry)) (now (modes .entry)) (now (requests .entry)) (now (marks .entry)) (now (owners .entry)) (now (receivings .entry))
         (now (pendings .entry)) (now (dones .entry)) (now (fulls .entry)) (now (payloads .entry)) (now (paddings .entry)) (now (codes .entry)) (now (masks .entry))))
-        (now (ram .entry)) ⌝ }
+        (now (ram .entry)) (now (sheet .entry))) ⌝ }
 {
     let count = event_count(kinds, places, values, handles, starts, ends);
-    let mut last = counts;
     for i in 0..count {
-        last = event(
+        event(
             i,
             kinds,
             places,
@@ -174,7 +174,9 @@ fn play(
             starts,
             ends,
             data,
-            last,
+            initialised,
+            controller_count,
+            object_count,
             modes,
             requests,
             marks,
@@ -191,7 +193,6 @@ fn play(
             sheet,
         );
     }
-    last
 }
 
 // Makes all calls from this state. A state that is not valid stays as it is, and so does the memory: every call on it is refused.
@@ -207,16 +208,18 @@ pub fn replay(
     ram: &mut [u8],
     sheet: &mut [u32],
 ) -> State
-    ensures { λ r. ⌜ left (view r) (now (ram .exit))
-        ≡ left-by chip can-format
-        (calls (now (sheet .entry))
+    ensures { λ r. ⌜ left (view r) (now (ram .exit)) (now (sheet .exit))
+        ≡ replayed
         (events-in (now (kinds .entry)) (now (places .entry)) (now (values .entry)) (now (handles .entry)) (now (starts .entry)) (now (ends .entry))
-        (now («data» .entry))))
-        (view state) (now (ram .entry)) ⌝ }
+        (now («data» .entry)))
+        (left (view state) (now (ram .entry)) (now (sheet .entry))) ⌝ }
 {
     if !valid(state) {
         return state;
     }
+    let mut initialised = state.initialised;
+    let mut controller_count = state.controller_count;
+    let mut object_count = state.object_count;
     let mut modes = state.modes;
     let mut requests = state.requests;
     let mut marks = state.marks;
@@ -229,12 +232,7 @@ pub fn replay(
     let mut paddings = state.paddings;
     let mut codes = state.codes;
     let mut masks = state.masks;
-    let counts = Counts {
-        initialised: state.initialised,
-        controller_count: state.controller_count,
-        object_count: state.object_count,
-    };
-    let last = play(
+    play(
         kinds,
         places,
         values,
@@ -242,7 +240,9 @@ pub fn replay(
         starts,
         ends,
         data,
-        counts,
+        &mut initialised,
+        &mut controller_count,
+        &mut object_count,
         &mut modes,
         &mut requests,
         &mut marks,
@@ -259,9 +259,9 @@ pub fn replay(
         sheet,
     );
     State {
-        initialised: last.initialised,
-        controller_count: last.controller_count,
-        object_count: last.object_count,
+        initialised: initialised,
+        controller_count: controller_count,
+        object_count: object_count,
         modes: modes,
         requests: requests,
         marks: marks,

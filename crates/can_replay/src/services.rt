@@ -31,8 +31,8 @@ pub fn set_mode(
     requires { ⌜ («controller_count» ≤ chip .controllers) × Places (chip .controllers) (now modes) (now requests) (now marks) ⌝ }
     ensures left { λ _. ⌜ ((s : rules.State can-format) (ram : List ℕ) → rules.valid chip can-format s ≡ true
         → Controlled (s .core) initialised «controller_count» (controllers-in (now (modes .entry)) (now (requests .entry)) (now (marks .entry)))
-        → left (rules.with-core s (with-controllers (s .core) (controllers-in (now (modes .exit)) (now (requests .exit)) (now (marks .exit))))) ram
-        ≡ left-of (calls.set-controller-mode chip can-format s (length (now (sheet .entry))) ram controller asked)) ⌝ }
+        → left (rules.with-core s (with-controllers (s .core) (controllers-in (now (modes .exit)) (now (requests .exit)) (now (marks .exit))))) ram (now (sheet .exit))
+        ≡ left-of (calls.set-controller-mode chip can-format s (length (now (sheet .entry))) ram controller asked) (now (sheet .entry))) ⌝ }
     ensures places { λ _. ⌜ Places (chip .controllers) (now (modes .exit)) (now (requests .exit)) (now (marks .exit)) ⌝ }
 {
     let gate = sheet_gate(true, sheet.len(), SHEET_SIZE);
@@ -62,7 +62,7 @@ pub fn get_mode(
     requires { ⌜ Places (chip .controllers) (now modes) (now requests) (now marks) ⌝ }
     ensures { λ _. ⌜ ((s : rules.State can-format) (ram : List ℕ) → rules.valid chip can-format s ≡ true
         → Controlled (s .core) initialised «controller_count» (controllers-in (now (modes .entry)) (now (requests .entry)) (now (marks .entry)))
-        → left s ram ≡ left-of (calls.get-controller-mode chip can-format s (length (now (sheet .entry))) ram controller)) ⌝ }
+        → left s ram (now (sheet .exit)) ≡ left-of (calls.get-controller-mode chip can-format s (length (now (sheet .entry))) ram controller) (now (sheet .entry))) ⌝ }
 {
     let gate = sheet_gate(true, sheet.len(), SHEET_SIZE);
     core_services::get_controller_mode::get_controller_mode(

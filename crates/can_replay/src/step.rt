@@ -3,10 +3,10 @@ ghost use Rattle.rules.specs.Can.{can-format};
 ghost use Rattle.rules.specs.Chip.{chip};
 ghost use Rattle.history.specs.Call.{performed};
 ghost use Rattle.can_state.specs.View.{view};
+ghost use Rattle.can_replay.specs.Left.{left-of};
 ghost use Rattle.can_replay.specs.Gathered.{gathered};
 ghost use Rattle.can_replay.specs.Stepped.{Stands, Stepped};
 ghost use Rattle.can_replay.specs.Replayed.{call-of};
-use crate::counts::Counts;
 use crate::events::off;
 use crate::events::sent;
 use crate::frames::arrive;
@@ -29,7 +29,9 @@ pub fn step(
     value: u32,
     handle: u16,
     bytes: &[u8],
-    counts: Counts,
+    initialised: &mut bool,
+    controller_count: &mut usize,
+    object_count: &mut usize,
     modes: &mut [u8; CONTROLLERS],
     requests: &mut [u8; CONTROLLERS],
     marks: &mut [bool; CONTROLLERS],
@@ -44,60 +46,70 @@ pub fn step(
     masks: &mut [u32; OBJECTS],
     ram: &mut [u8],
     sheet: &mut [u32],
-) -> Counts
+)
     requires { ⌜ Stands
-        (gathered counts (now modes) (now requests) (now marks) (now owners) (now receivings) (now pendings) (now dones) (now fulls) (now payloads) (now paddings)
+        (gathered (now initialised) (now «controller_count») (now «object_count») (now modes) (now requests) (now marks) (now owners) (now receivings) (now pendings) (now dones) (now fulls) (now payloads) (now paddings)
         (now codes) (now masks)) ⌝ }
-    ensures { λ r. ⌜ Stepped
+    ensures { λ _. ⌜ Stepped
+        (left-of
         (performed chip can-format (call-of (now (sheet .entry)) place value handle (now (bytes .entry)) kind)
         (view
-        (gathered counts (now (modes .entry)) (now (requests .entry)) (now (marks .entry)) (now (owners .entry)) (now (receivings .entry))
+        (gathered (now (initialised .entry)) (now («controller_count» .entry)) (now («object_count» .entry)) (now (modes .entry)) (now (requests .entry)) (now (marks .entry)) (now (owners .entry)) (now (receivings .entry))
         (now (pendings .entry)) (now (dones .entry)) (now (fulls .entry)) (now (payloads .entry)) (now (paddings .entry)) (now (codes .entry)) (now (masks .entry))))
         (now (ram .entry)))
-        (gathered r (now (modes .exit)) (now (requests .exit)) (now (marks .exit)) (now (owners .exit)) (now (receivings .exit))
+        (now (sheet .entry)))
+        (gathered (now (initialised .exit)) (now («controller_count» .exit)) (now («object_count» .exit)) (now (modes .exit)) (now (requests .exit)) (now (marks .exit)) (now (owners .exit)) (now (receivings .exit))
         (now (pendings .exit)) (now (dones .exit)) (now (fulls .exit)) (now (payloads .exit)) (now (paddings .exit)) (now (codes .exit)) (now (masks .exit)))
-        (now (ram .exit)) ⌝ }
+        (now (ram .exit)) (now (sheet .exit)) ⌝ }
 {
     match kind {
-        0 => init(
-            counts,
-            modes,
-            requests,
-            marks,
-            owners,
-            receivings,
-            pendings,
-            dones,
-            fulls,
-            payloads,
-            paddings,
-            codes,
-            masks,
-            ram,
-            sheet,
-            bytes,
-        ),
-        1 => deinit(
-            counts,
-            modes,
-            requests,
-            marks,
-            owners,
-            receivings,
-            pendings,
-            dones,
-            fulls,
-            payloads,
-            paddings,
-            codes,
-            masks,
-            ram,
-            sheet,
-        ),
+        0 => {
+            init(
+                initialised,
+                controller_count,
+                object_count,
+                modes,
+                requests,
+                marks,
+                owners,
+                receivings,
+                pendings,
+                dones,
+                fulls,
+                payloads,
+                paddings,
+                codes,
+                masks,
+                ram,
+                sheet,
+                bytes,
+            );
+        }
+        1 => {
+            deinit(
+                initialised,
+                controller_count,
+                object_count,
+                modes,
+                requests,
+                marks,
+                owners,
+                receivings,
+                pendings,
+                dones,
+                fulls,
+                payloads,
+                paddings,
+                codes,
+                masks,
+                ram,
+                sheet,
+            );
+        }
         2 => {
             set_mode(
-                counts.initialised,
-                counts.controller_count,
+                *initialised,
+                *controller_count,
                 modes,
                 requests,
                 marks,
@@ -105,24 +117,22 @@ pub fn step(
                 place,
                 value,
             );
-            counts
         }
         3 => {
             get_mode(
-                counts.initialised,
-                counts.controller_count,
+                *initialised,
+                *controller_count,
                 modes,
                 requests,
                 marks,
                 sheet,
                 place,
             );
-            counts
         }
         4 => {
             write(
-                counts.initialised,
-                counts.object_count,
+                *initialised,
+                *object_count,
                 modes,
                 requests,
                 marks,
@@ -142,12 +152,11 @@ pub fn step(
                 value,
                 bytes,
             );
-            counts
         }
         5 => {
             objects(
                 Visit::Sent,
-                counts.object_count,
+                *object_count,
                 owners,
                 pendings,
                 dones,
@@ -155,12 +164,11 @@ pub fn step(
                 ram,
                 sheet,
             );
-            counts
         }
         6 => {
             objects(
                 Visit::Received,
-                counts.object_count,
+                *object_count,
                 owners,
                 pendings,
                 dones,
@@ -168,13 +176,12 @@ pub fn step(
                 ram,
                 sheet,
             );
-            counts
         }
         7 => {
             controllers(
                 Turn::ModeChange,
-                counts.controller_count,
-                counts.object_count,
+                *controller_count,
+                *object_count,
                 modes,
                 requests,
                 marks,
@@ -185,13 +192,12 @@ pub fn step(
                 ram,
                 sheet,
             );
-            counts
         }
         8 => {
             controllers(
                 Turn::GoingOff,
-                counts.controller_count,
-                counts.object_count,
+                *controller_count,
+                *object_count,
                 modes,
                 requests,
                 marks,
@@ -202,12 +208,11 @@ pub fn step(
                 ram,
                 sheet,
             );
-            counts
         }
         9 => {
             sent(
-                counts.initialised,
-                counts.object_count,
+                *initialised,
+                *object_count,
                 modes,
                 requests,
                 marks,
@@ -218,24 +223,22 @@ pub fn step(
                 fulls,
                 place,
             );
-            counts
         }
         10 => {
             off(
-                counts.initialised,
-                counts.controller_count,
+                *initialised,
+                *controller_count,
                 modes,
                 requests,
                 marks,
                 place,
             );
-            counts
         }
         _ => {
             arrive(
-                counts.initialised,
-                counts.controller_count,
-                counts.object_count,
+                *initialised,
+                *controller_count,
+                *object_count,
                 modes,
                 requests,
                 marks,
@@ -254,7 +257,6 @@ pub fn step(
                 value,
                 bytes,
             );
-            counts
         }
     }
 }

@@ -8,14 +8,15 @@ ghost use Rattle.can_state.specs.View.{view};
 ghost use Rattle.can_state.specs.Sizes.{Sized};
 ghost use Rattle.can_replay.specs.Left.{left, left-of};
 ghost use Rattle.can_replay.specs.Gathered.{gathered};
-use crate::counts::Counts;
 use can_chip::CONTROLLERS;
 use can_chip::OBJECTS;
 use can_state::state::State;
 
 // The state that stands in the arrays.
-pub fn gather(
-    counts: Counts,
+fn gather(
+    initialised: bool,
+    controller_count: usize,
+    object_count: usize,
     modes: &[u8; CONTROLLERS],
     requests: &[u8; CONTROLLERS],
     marks: &[bool; CONTROLLERS],
@@ -30,7 +31,7 @@ pub fn gather(
     masks: &[u32; OBJECTS],
 ) -> State
     ensures { λ r. ⌜ r
-        ≡ gathered counts (now (modes .entry)) (now (requests .entry)) (now (marks .entry)) (now (owners .entry)) (now (receivings .entry))
+        ≡ gathered initialised «controller_count» «object_count» (now (modes .entry)) (now (requests .entry)) (now (marks .entry)) (now (owners .entry)) (now (receivings .entry))
         (now (pendings .entry)) (now (dones .entry)) (now (fulls .entry)) (now (payloads .entry)) (now (paddings .entry)) (now (codes .entry)) (now (masks .entry)) ⌝ }
 {
     let all_modes = *modes;
@@ -46,9 +47,9 @@ pub fn gather(
     let all_codes = *codes;
     let all_masks = *masks;
     State {
-        initialised: counts.initialised,
-        controller_count: counts.controller_count,
-        object_count: counts.object_count,
+        initialised: initialised,
+        controller_count: controller_count,
+        object_count: object_count,
         modes: all_modes,
         requests: all_requests,
         marks: all_marks,
@@ -67,6 +68,9 @@ pub fn gather(
 // Lays a state into the arrays.
 fn lay(
     state: State,
+    initialised: &mut bool,
+    controller_count: &mut usize,
+    object_count: &mut usize,
     modes: &mut [u8; CONTROLLERS],
     requests: &mut [u8; CONTROLLERS],
     marks: &mut [bool; CONTROLLERS],
@@ -79,8 +83,8 @@ fn lay(
     paddings: &mut [u8; OBJECTS],
     codes: &mut [u32; OBJECTS],
     masks: &mut [u32; OBJECTS],
-) -> Counts
-    ensures same { λ r. ⌜ gathered r (now (modes .exit)) (now (requests .exit)) (now (marks .exit)) (now (owners .exit)) (now (receivings .exit))
+)
+    ensures same { λ _. ⌜ gathered (now (initialised .exit)) (now («controller_count» .exit)) (now («object_count» .exit)) (now (modes .exit)) (now (requests .exit)) (now (marks .exit)) (now (owners .exit)) (now (receivings .exit))
         (now (pendings .exit)) (now (dones .exit)) (now (fulls .exit)) (now (payloads .exit)) (now (paddings .exit)) (now (codes .exit)) (now (masks .exit))
         ≡ state ⌝ }
     ensures sized { λ _. ⌜ Sized state ⌝ }
@@ -109,16 +113,16 @@ fn lay(
     *paddings = all_paddings;
     *codes = all_codes;
     *masks = all_masks;
-    Counts {
-        initialised: state.initialised,
-        controller_count: state.controller_count,
-        object_count: state.object_count,
-    }
+    *initialised = state.initialised;
+    *controller_count = state.controller_count;
+    *object_count = state.object_count;
 }
 
 // Init.
 pub fn init(
-    counts: Counts,
+    initialised: &mut bool,
+    controller_count: &mut usize,
+    object_count: &mut usize,
     modes: &mut [u8; CONTROLLERS],
     requests: &mut [u8; CONTROLLERS],
     marks: &mut [bool; CONTROLLERS],
@@ -134,24 +138,26 @@ pub fn init(
     ram: &mut [u8],
     sheet: &mut [u32],
     bytes: &[u8],
-) -> Counts
-    ensures left { λ r. ⌜ left
+)
+    ensures left { λ _. ⌜ left
         (view
-        (gathered r (now (modes .exit)) (now (requests .exit)) (now (marks .exit)) (now (owners .exit)) (now (receivings .exit))
+        (gathered (now (initialised .exit)) (now («controller_count» .exit)) (now («object_count» .exit)) (now (modes .exit)) (now (requests .exit)) (now (marks .exit)) (now (owners .exit)) (now (receivings .exit))
         (now (pendings .exit)) (now (dones .exit)) (now (fulls .exit)) (now (payloads .exit)) (now (paddings .exit)) (now (codes .exit)) (now (masks .exit))))
-        (now (ram .exit))
+        (now (ram .exit)) (now (sheet .exit))
         ≡ left-of
         (calls.init chip can-format
         (view
-        (gathered counts (now (modes .entry)) (now (requests .entry)) (now (marks .entry)) (now (owners .entry)) (now (receivings .entry))
+        (gathered (now (initialised .entry)) (now («controller_count» .entry)) (now («object_count» .entry)) (now (modes .entry)) (now (requests .entry)) (now (marks .entry)) (now (owners .entry)) (now (receivings .entry))
         (now (pendings .entry)) (now (dones .entry)) (now (fulls .entry)) (now (payloads .entry)) (now (paddings .entry)) (now (codes .entry)) (now (masks .entry))))
-        (length (now (sheet .entry))) (now (ram .entry)) (now (bytes .entry))) ⌝ }
-    ensures sized { λ r. ⌜ Sized
-        (gathered r (now (modes .exit)) (now (requests .exit)) (now (marks .exit)) (now (owners .exit)) (now (receivings .exit))
+        (length (now (sheet .entry))) (now (ram .entry)) (now (bytes .entry))) (now (sheet .entry)) ⌝ }
+    ensures sized { λ _. ⌜ Sized
+        (gathered (now (initialised .exit)) (now («controller_count» .exit)) (now («object_count» .exit)) (now (modes .exit)) (now (requests .exit)) (now (marks .exit)) (now (owners .exit)) (now (receivings .exit))
         (now (pendings .exit)) (now (dones .exit)) (now (fulls .exit)) (now (payloads .exit)) (now (paddings .exit)) (now (codes .exit)) (now (masks .exit))) ⌝ }
 {
     let state = gather(
-        counts,
+        *initialised,
+        *controller_count,
+        *object_count,
         modes,
         requests,
         marks,
@@ -169,6 +175,9 @@ pub fn init(
     let next = called.state;
     lay(
         next,
+        initialised,
+        controller_count,
+        object_count,
         modes,
         requests,
         marks,
@@ -181,12 +190,14 @@ pub fn init(
         paddings,
         codes,
         masks,
-    )
+    );
 }
 
 // DeInit.
 pub fn deinit(
-    counts: Counts,
+    initialised: &mut bool,
+    controller_count: &mut usize,
+    object_count: &mut usize,
     modes: &mut [u8; CONTROLLERS],
     requests: &mut [u8; CONTROLLERS],
     marks: &mut [bool; CONTROLLERS],
@@ -201,24 +212,26 @@ pub fn deinit(
     masks: &mut [u32; OBJECTS],
     ram: &mut [u8],
     sheet: &mut [u32],
-) -> Counts
-    ensures left { λ r. ⌜ left
+)
+    ensures left { λ _. ⌜ left
         (view
-        (gathered r (now (modes .exit)) (now (requests .exit)) (now (marks .exit)) (now (owners .exit)) (now (receivings .exit))
+        (gathered (now (initialised .exit)) (now («controller_count» .exit)) (now («object_count» .exit)) (now (modes .exit)) (now (requests .exit)) (now (marks .exit)) (now (owners .exit)) (now (receivings .exit))
         (now (pendings .exit)) (now (dones .exit)) (now (fulls .exit)) (now (payloads .exit)) (now (paddings .exit)) (now (codes .exit)) (now (masks .exit))))
-        (now (ram .exit))
+        (now (ram .exit)) (now (sheet .exit))
         ≡ left-of
         (calls.deinit chip can-format
         (view
-        (gathered counts (now (modes .entry)) (now (requests .entry)) (now (marks .entry)) (now (owners .entry)) (now (receivings .entry))
+        (gathered (now (initialised .entry)) (now («controller_count» .entry)) (now («object_count» .entry)) (now (modes .entry)) (now (requests .entry)) (now (marks .entry)) (now (owners .entry)) (now (receivings .entry))
         (now (pendings .entry)) (now (dones .entry)) (now (fulls .entry)) (now (payloads .entry)) (now (paddings .entry)) (now (codes .entry)) (now (masks .entry))))
-        (length (now (sheet .entry))) (now (ram .entry))) ⌝ }
-    ensures sized { λ r. ⌜ Sized
-        (gathered r (now (modes .exit)) (now (requests .exit)) (now (marks .exit)) (now (owners .exit)) (now (receivings .exit))
+        (length (now (sheet .entry))) (now (ram .entry))) (now (sheet .entry)) ⌝ }
+    ensures sized { λ _. ⌜ Sized
+        (gathered (now (initialised .exit)) (now («controller_count» .exit)) (now («object_count» .exit)) (now (modes .exit)) (now (requests .exit)) (now (marks .exit)) (now (owners .exit)) (now (receivings .exit))
         (now (pendings .exit)) (now (dones .exit)) (now (fulls .exit)) (now (payloads .exit)) (now (paddings .exit)) (now (codes .exit)) (now (masks .exit))) ⌝ }
 {
     let state = gather(
-        counts,
+        *initialised,
+        *controller_count,
+        *object_count,
         modes,
         requests,
         marks,
@@ -236,6 +249,9 @@ pub fn deinit(
     let next = called.state;
     lay(
         next,
+        initialised,
+        controller_count,
+        object_count,
         modes,
         requests,
         marks,
@@ -248,5 +264,5 @@ pub fn deinit(
         paddings,
         codes,
         masks,
-    )
+    );
 }

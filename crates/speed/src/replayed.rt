@@ -49,12 +49,26 @@ fn sum(bytes: &[u8]) -> u32 {
     total
 }
 
-// The sum of the memory's bytes shows that both programs came to the same end.
-fn told(name: &[u8], ram: &[u8]) {
-    let total = sum(ram) as u64;
+// The sum of the words, as far as a word holds it.
+fn words_sum(words: &[u32]) -> u32 {
+    let mut total = 0u32;
+    let mut i = 0;
+    while i < words.len() {
+        total = std::num::wrapping_add_u32(total, words[i]);
+        i += 1;
+    }
+    total
+}
+
+// The sums of the memory's bytes and of the sheet's words show that both programs came to the same end.
+fn told(name: &[u8], ram: &[u8], sheet: &[u32]) {
+    let bytes = sum(ram) as u64;
+    let words = words_sum(sheet) as u64;
     io::write_all(STDOUT_FILENO, name);
-    io::print_decimal(STDOUT_FILENO, total);
-    io::write_all(STDOUT_FILENO, b" at the end\n");
+    io::print_decimal(STDOUT_FILENO, bytes);
+    io::write_all(STDOUT_FILENO, b" in memory, ");
+    io::print_decimal(STDOUT_FILENO, words);
+    io::write_all(STDOUT_FILENO, b" on the sheet\n");
 }
 
 fn small(lists: u32) {
@@ -62,7 +76,7 @@ fn small(lists: u32) {
     let mut sheet = [0u32; can::SHEET_SIZE];
     let called = can::init(can::initial_state(), &mut ram, &mut sheet, &chips::SMALL);
     all(called.state, &mut ram, &mut sheet, lists);
-    told(b"1 controller, 2 objects: ", &ram);
+    told(b"1 controller, 2 objects: ", &ram, &sheet);
 }
 
 fn full(lists: u32) {
@@ -71,7 +85,7 @@ fn full(lists: u32) {
     let bytes = chips::full();
     let called = can::init(can::initial_state(), &mut ram, &mut sheet, &bytes);
     all(called.state, &mut ram, &mut sheet, lists);
-    told(b"4 controllers, 32 objects: ", &ram);
+    told(b"4 controllers, 32 objects: ", &ram, &sheet);
 }
 
 pub fn rounds(rounds: u32) {

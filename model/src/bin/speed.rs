@@ -179,8 +179,8 @@ fn replay(name: &str, bytes: &[u8], rounds: u32) {
         }
     }
     let memory: u64 = bench.memory.iter().map(|&byte| u64::from(byte)).sum();
-    let sheet: u64 = bench.sheet.iter().map(|&word| u64::from(word)).sum();
-    println!("{name}: memory {memory}, sheet {sheet} at the end");
+    let sheet = bench.sheet.iter().fold(0u32, |sum, &word| sum.wrapping_add(word));
+    println!("{name}: {memory} in memory, {sheet} on the sheet");
 }
 
 fn main() {

@@ -1,7 +1,7 @@
 -- The gate is the rules', and the core's event is lifted to the state.
 use Rattle.rules.specs.Calls.{bus-off-detected}
 use Rattle.can_state.proofs.Gates.{lifted-performed}
-use Rattle.can_replay.proofs.Gates.{state-gate-is, left-is}
+use Rattle.can_replay.proofs.Gates.{state-gate-is, left-quiet}
 use borrow.Author.Needs.{needs}
 use Rattle.can_replay.proofs.events.off.Statement.{statement}
 use Rattle.can_replay.proofs.events.off.Tie as tie
@@ -15,8 +15,8 @@ bus-off-detected-requires c κs = search needs
 returns : tie.Need-returns
 unfolding bus-off-detected
 returns c = (
-  (λ s ram v held.
-      left-is (lifted-performed s (rw (state-gate-is s v (c .before .before .before .before .state-gate .ensures)) at (c .bus-off-detected .ensures (s .core) ram held)))),
+  (λ s ram sheet v held.
+      left-quiet (lifted-performed s (rw (state-gate-is s v (c .before .before .before .before .state-gate .ensures)) at (c .bus-off-detected .ensures (s .core) ram held))) sheet),
   record { first = search needs; second = search needs; third = search needs },
 )
 

@@ -3,6 +3,8 @@ use Prim.Native.Nat.{_-_, _≤_}
 use mathlib.Core.Path.{sym, _∙_}
 use native.Mathlib.Omega.{arith}
 use borrow.Author.Needs.{needs}
+use Rattle.can_state.specs.View.{view}
+use Rattle.can_replay.specs.Left.{left}
 use Rattle.can_replay.specs.Gathered.{gathered}
 use Rattle.can_replay.specs.Replayed.{events-in}
 use Rattle.can_replay.proofs.Plays.{Playing, playing-begins, playing-goes-on, playing-ends}
@@ -10,13 +12,13 @@ use Rattle.can_replay.proofs.replay.play.Statement.{statement}
 use Rattle.can_replay.proofs.replay.play.Tie as tie
 
 abbrev Inv-loop : tie.InvT-loop
-Inv-loop kinds places values handles starts ends «data» modes₀ requests₀ marks₀ owners₀ receivings₀ pendings₀ dones₀ fulls₀ payloads₀ paddings₀ codes₀ masks₀ ram₀ sheet₀ count last₀ i₀ modes requests marks owners receivings pendings dones fulls payloads paddings codes masks ram sheet last i =
-    Playing (events-in kinds places values handles starts ends «data») sheet₀ (gathered last₀ modes₀ requests₀ marks₀ owners₀ receivings₀ pendings₀ dones₀ fulls₀ payloads₀ paddings₀ codes₀ masks₀) ram₀
-    (gathered last modes requests marks owners receivings pendings dones fulls payloads paddings codes masks) ram sheet i
+Inv-loop kinds places values handles starts ends «data» initialised₀ controller-count₀ object-count₀ modes₀ requests₀ marks₀ owners₀ receivings₀ pendings₀ dones₀ fulls₀ payloads₀ paddings₀ codes₀ masks₀ ram₀ sheet₀ count i₀ initialised controller-count object-count modes requests marks owners receivings pendings dones fulls payloads paddings codes masks ram sheet i =
+    Playing (events-in kinds places values handles starts ends «data») (left (view (gathered initialised₀ controller-count₀ object-count₀ modes₀ requests₀ marks₀ owners₀ receivings₀ pendings₀ dones₀ fulls₀ payloads₀ paddings₀ codes₀ masks₀)) ram₀ sheet₀)
+    (gathered initialised controller-count object-count modes requests marks owners receivings pendings dones fulls payloads paddings codes masks) ram sheet i
     × (i ≤ count)
 
 abbrev μ-loop : tie.MeasureT-loop
-μ-loop kinds places values handles starts ends «data» modes₀ requests₀ marks₀ owners₀ receivings₀ pendings₀ dones₀ fulls₀ payloads₀ paddings₀ codes₀ masks₀ ram₀ sheet₀ count last₀ i₀ modes requests marks owners receivings pendings dones fulls payloads paddings codes masks ram sheet last i =
+μ-loop kinds places values handles starts ends «data» initialised₀ controller-count₀ object-count₀ modes₀ requests₀ marks₀ owners₀ receivings₀ pendings₀ dones₀ fulls₀ payloads₀ paddings₀ codes₀ masks₀ ram₀ sheet₀ count i₀ initialised controller-count object-count modes requests marks owners receivings pendings dones fulls payloads paddings codes masks ram sheet i =
     count - i
 
 event-count-requires : tie.Need-event-count-requires Inv-loop μ-loop
@@ -27,9 +29,9 @@ loop-holds c = (playing-begins _ _ _ _ (c .before .before .before .before .befor
 
 event-requires : tie.Need-event-requires Inv-loop μ-loop
 event-requires c κs =
-    let a = c .before .before .before .before .before .before .before .before .before .before .before .before .before .before .before .before .before .before .before .before .before .before .before .before .before .before .args in
-    let all = c .before .before .before .before .before .before .before .before .before .before .before .before .before .before .before .before .event-count .ensures (a .«data» .now) in
-    (rw (sym all) (c .before .before .before .before .before .before .before .before .before .before .before .before .before .before .loop-test .taken), c .before .before .before .before .before .before .before .before .before .before .before .before .before .before .before .loop .inv .0 .stands)
+    let a = c .before .before .before .before .before .before .before .before .before .before .before .before .before .before .before .before .before .before .before .before .before .before .before .before .before .before .before .before .before .args in
+    let all = c .before .before .before .before .before .before .before .before .before .before .before .before .before .before .before .before .before .before .before .event-count .ensures (a .«data» .now) in
+    (rw (sym all) (c .before .before .before .before .before .before .before .before .before .before .before .before .before .before .before .before .before .loop-test .taken), c .before .before .before .before .before .before .before .before .before .before .before .before .before .before .before .before .before .before .loop .inv .0 .stands)
 
 add-i : tie.Need-add-i Inv-loop μ-loop
 add-i c = search needs
@@ -39,9 +41,8 @@ loop-less c = omega arith
 
 loop-again : tie.Need-loop-again Inv-loop μ-loop
 loop-again c =
-    let called = c .before .before .before .before in
-    let inside = c .before .before .before .before .before .before .before .before .before .before .before .before .before .before .before .before .before .before .before in
-    (playing-goes-on (c .before .before .before .before .before .before .before .before .before .before .before .before .before .before .before .before .before .before .before .before .loop .inv .0) (called .event .ensures) (called .event .kept .1 .1 .1 .1 .1 .1 .1 .1 .1 .1 .1 .1 .1 .1 .1 .1 .1 .1 .1 .1 .1 .1 .0) (called .event .kept .1 .1 .1 .1 .1 .1 .1 .1 .1 .1 .1 .1 .1 .1 .1 .1 .1 .1 .1 .1 .1 .0), omega (arith, inside .loop-test .taken))
+    let called = c .before .before .before .before .event in
+    (playing-goes-on (c .before .before .before .before .before .before .before .before .before .before .before .before .before .before .before .before .before .before .before .before .before .before .before .loop .inv .0) (called .ensures) (called .kept .1 .1 .1 .1 .1 .1 .1 .1 .1 .1 .1 .1 .1 .1 .1 .1 .1 .1 .1 .1 .1 .1 .1 .1 .0) (called .kept .1 .1 .1 .1 .1 .1 .1 .1 .1 .1 .1 .1 .1 .1 .1 .1 .1 .1 .1 .1 .1 .1 .1 .0), omega (arith, c .before .before .before .before .before .before .before .before .before .before .before .before .before .before .before .before .before .before .before .before .before .before .loop-test .taken))
 
 same-length : tie.Need-same-length Inv-loop μ-loop
 same-length c = c .before .loop .inv .0 .same-ram
@@ -51,9 +52,8 @@ same-length-2 c = c .before .loop .inv .0 .same-sheet
 
 returns : tie.Need-returns Inv-loop μ-loop
 returns c =
-    let at = c .before in
     let all = c .before .before .event-count .ensures (c .before .before .before .before .before .before .before .before .before .before .before .before .args .«data» .now) in
-    playing-ends (at .loop .inv .0) (omega (arith, at .loop .inv .1, c .loop-test .left) ∙ all)
+    playing-ends (c .before .loop .inv .0) (omega (arith, c .before .loop .inv .1, c .loop-test .left) ∙ all)
 
 pub play-spec : {M : Type 1} → statement M
 play-spec =

@@ -3,6 +3,7 @@ use mathlib.Core.Path.{sym, _∙_}
 use Rattle.laws.proofs.Tests.{not-true, not-false}
 use Rattle.can_state.specs.View.{view}
 use Rattle.can_state.proofs.Sizes.{sizes}
+use Rattle.can_replay.specs.Replayed.{events-in, replayed}
 use Rattle.can_replay.proofs.Plays.{unsound-stays}
 use borrow.Author.Needs.{needs}
 use Rattle.can_replay.proofs.replay.replay.Statement.{statement}
@@ -12,14 +13,15 @@ valid-requires : tie.Need-valid-requires
 valid-requires c κs = search needs
 
 returns : tie.Need-returns
+unfolding replayed
 returns c =
     let a = c .before .before .before .before .before .before .before .before .before .before .before .args in
-    unsound-stays (view (a .state)) (a .ram .now) (sym (c .before .valid .ensures) ∙ not-true _ (c .if1 .taken)) _
+    unsound-stays (view (a .state)) (a .ram .now) (sym (c .before .valid .ensures) ∙ not-true _ (c .if1 .taken)) (events-in (a .kinds .now) (a .places .now) (a .values .now) (a .handles .now) (a .starts .now) (a .ends .now) (a .«data» .now)) _ (a .sheet .now)
 
 play-requires : tie.Need-play-requires
 play-requires c κs =
-    let start = c .before .before .before .before .before .before .before .before .before .before .before .before .before .before .before .before .before .before .before .before .before .before .before .before .before .before .before .before .before .before .before .before .before .before .before .before .before in
-    record { sized = sizes (start .args .state) _ (start .good .0); sound = sym (c .before .before .before .before .before .before .before .before .before .before .before .before .before .before .before .before .before .before .before .before .before .before .before .before .before .before .before .valid .ensures) ∙ not-false _ (c .before .before .before .before .before .before .before .before .before .before .before .before .before .before .before .before .before .before .before .before .before .before .before .before .before .before .if1 .left) }
+    let start = c .before .before .before .before .before .before .before .before .before .before .before .before .before .before .before .before .before .before .before .before .before .before .before .before .before .before .before .before .before .before .before .before .before .before .before .before .before .before .before .before in
+    record { sized = sizes (start .args .state) _ (start .good .0); sound = sym (c .before .before .before .before .before .before .before .before .before .before .before .before .before .before .before .before .before .before .before .before .before .before .before .before .before .before .before .before .before .before .valid .ensures) ∙ not-false _ (c .before .before .before .before .before .before .before .before .before .before .before .before .before .before .before .before .before .before .before .before .before .before .before .before .before .before .before .before .before .if1 .left) }
 
 same-length : tie.Need-same-length
 same-length c = search needs
