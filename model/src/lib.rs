@@ -20,6 +20,7 @@ pub mod nights;
 pub mod notice;
 pub mod outcome;
 pub mod polls;
+pub mod rounds;
 pub mod script;
 pub mod services;
 pub mod state;

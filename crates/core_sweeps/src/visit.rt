@@ -24,7 +24,7 @@ pub enum Visit {
     Stopped { controller: usize },
 }
 
-// Whether an object of this controller is due.
+// Whether an object of this controller is due. Most objects are free, so that is asked first.
 pub fn visit_due(visit: Visit, owner: u8, m: Mailbox) -> bool
     ensures { λ r. ⌜ ((size : ℕ) (two : Bool) (owners : List Owner) (ram : List ℕ) (h : ℕ) → owner-at owners h .controller ≡ owner
         → r ≡ visit-of visit size two owners ram .due h (view-mailbox m)) ⌝ }
@@ -32,7 +32,7 @@ pub fn visit_due(visit: Visit, owner: u8, m: Mailbox) -> bool
     match visit {
         Visit::Sent => m.tx_done,
         Visit::Received => m.rx_full,
-        Visit::Stopped { controller } => (owner as usize == controller) & m.tx_pending,
+        Visit::Stopped { controller } => m.tx_pending & (owner as usize == controller),
     }
 }
 

@@ -1,28 +1,12 @@
 // Makes the same round of calls over and over, with no input and little output, so that the driver's own cost can be measured.
 //
-//     speed [ROUNDS [replay]]     with a second word the rounds are replayed as lists of events
-mod chips;
-mod events;
-mod replayed;
+//     speed [ROUNDS]
 mod round;
 
 use can::State;
 use libc::STDOUT_FILENO;
 use round::Sum;
-
-// How many rounds are made where no argument says.
-const ROUNDS: u32 = 1000;
-
-// The rounds that the first argument asks for.
-fn rounds() -> u32 {
-    let mut buffer = [0u8; 16];
-    let count = os::arg(1, &mut buffer);
-    let reading = bench_words::number::number(&buffer[..count]);
-    match reading {
-        bench_words::reading::Reading::Value(n) => n,
-        bench_words::reading::Reading::Unreadable(_) => ROUNDS,
-    }
-}
+use speed_setup::chips;
 
 // So many rounds from a state with everything STOPPED.
 fn all(state: State, ram: &mut [u8], sheet: &mut [u32], rounds: u32) -> Sum {
@@ -63,18 +47,8 @@ fn full(rounds: u32) {
     told(b"4 controllers, 32 objects: ", sum);
 }
 
-// Whether there is a second argument.
-fn is_replay() -> bool {
-    let mut buffer = [0u8; 16];
-    os::arg(2, &mut buffer) != 0
-}
-
 fn main() {
-    let rounds = rounds();
-    if is_replay() {
-        replayed::rounds(rounds);
-    } else {
-        small(rounds);
-        full(rounds);
-    }
+    let rounds = speed_setup::rounds::rounds();
+    small(rounds);
+    full(rounds);
 }

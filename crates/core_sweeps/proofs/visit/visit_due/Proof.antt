@@ -1,4 +1,5 @@
 -- Each case is the case of the definition.
+use mathlib.Core.Bool.{and-comm}
 use borrow.Author.Needs.{needs}
 use Rattle.core_sweeps.proofs.visit.visit_due.Statement.{statement}
 use Rattle.core_sweeps.proofs.visit.visit_due.Tie as tie
@@ -19,7 +20,9 @@ returns-2 : tie.Need-returns-2
 returns-2 c size two owners ram h e = rw (c .enum-told2 .given .1)
 
 returns-3 : tie.Need-returns-3
-returns-3 c size two owners ram h e = rw (c .before .before .visit .given .1, e)
+returns-3 c size two owners ram h e =
+    let a = c .before .before .before .before .args in
+    rw (c .before .before .visit .given .1, e) (and-comm (a .m .«tx_pending») _)
 
 pub visit-due-spec : {M : Type 1} → statement M
 visit-due-spec =

@@ -1,11 +1,11 @@
--- `speed::replayed::all` is safe and ends.
+-- `speed_replay::replayed::all` is safe and ends.
 use borrow.Author.Needs.{needs}
 use native.Mathlib.Omega.{arith}
 use Prim.Native.Nat.{_≤_, _-_}
 use mathlib.Core.Path.{_≡_}
 use lib.ListN.{length}
-use Rattle.speed.proofs.replayed.all.Statement.{statement}
-use Rattle.speed.proofs.replayed.all.Tie as tie
+use Rattle.speed_replay.proofs.replayed.all.Statement.{statement}
+use Rattle.speed_replay.proofs.replayed.all.Tie as tie
 
 abbrev Inv-loop : tie.InvT-loop
 Inv-loop ram₀ sheet₀ lists kinds places values handles starts ends «data» s₀ counter₀ ram sheet s counter =

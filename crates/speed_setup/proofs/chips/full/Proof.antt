@@ -1,11 +1,11 @@
--- `speed::chips::full` meets its contract: it is safe and ends.
+-- `speed_setup::chips::full` meets its contract: it is safe and ends.
 use borrow.Author.Needs.{needs}
 use Prim.Native.Nat.{_≤_, _-_}
 use mathlib.Core.Path.{_≡_}
 use lib.ListN.{length}
 use Rattle.rules.specs.Chip.{chip}
-use Rattle.speed.proofs.chips.full.Statement.{statement}
-use Rattle.speed.proofs.chips.full.Tie as tie
+use Rattle.speed_setup.proofs.chips.full.Statement.{statement}
+use Rattle.speed_setup.proofs.chips.full.Tie as tie
 
 abbrev Inv-loop : tie.InvT-loop
 Inv-loop bytes₀ h₀ bytes h = (h ≤ chip .objects) × (length bytes ≡ length bytes₀)

@@ -1,10 +1,10 @@
 // The rounds replayed: lists of events over the driver's arrays, with the state tested once for each list and not for each call.
-use crate::chips;
 use crate::events;
 use crate::events::EVENTS;
 use can::State;
 use can_replay::replay::replay;
 use libc::STDOUT_FILENO;
+use speed_setup::chips;
 
 // So many lists, each on what the last one left.
 fn all(state: State, ram: &mut [u8], sheet: &mut [u32], lists: u32) -> State {

@@ -1,9 +1,9 @@
--- `speed::replayed::words_sum` is safe and ends.
+-- `speed_replay::replayed::words_sum` is safe and ends.
 use borrow.Author.Needs.{needs}
 use Prim.Native.Nat.{_≤_, _-_}
 use lib.ListN.{length}
-use Rattle.speed.proofs.replayed.words_sum.Statement.{statement}
-use Rattle.speed.proofs.replayed.words_sum.Tie as tie
+use Rattle.speed_replay.proofs.replayed.words_sum.Statement.{statement}
+use Rattle.speed_replay.proofs.replayed.words_sum.Tie as tie
 
 abbrev Inv-loop : tie.InvT-loop
 Inv-loop words total₀ i₀ total i = i ≤ length words

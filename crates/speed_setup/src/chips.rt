@@ -1,12 +1,12 @@
 // The two configurations that rounds are made on. Object 0 sends, object 1 receives, both on controller 0.
-use can::CONTROLLERS;
-use can::OBJECTS;
+use can_chip::CONTROLLERS;
+use can_chip::OBJECTS;
 
 // One controller with the two objects alone: the paper's configuration K.
 pub const SMALL: [u8; 32] =
     *b"CHB\x00\x01\x01\x02\x00\x00\x00\x40\xCC\x00\x00\x00\x00\x00\x00\x00\x00\x00\x01\x08\x00\x00\x00\x01\x20\x00\x00\x07\xFF";
 
-const FULL: usize = 8 + 12 * OBJECTS;
+pub const FULL: usize = 8 + 12 * OBJECTS;
 
 // All controllers and objects in use: the others send, with a payload of 8.
 pub fn full() -> [u8; FULL] {

@@ -1,10 +1,10 @@
--- `speed::events::repeated` is safe and ends.
+-- `speed_replay::events::repeated` is safe and ends.
 use borrow.Author.Needs.{needs}
 use Prim.Native.Nat.{_≤_, _-_}
 use mathlib.Core.Path.{_≡_}
 use lib.ListN.{length}
-use Rattle.speed.proofs.events.repeated.Statement.{statement}
-use Rattle.speed.proofs.events.repeated.Tie as tie
+use Rattle.speed_replay.proofs.events.repeated.Statement.{statement}
+use Rattle.speed_replay.proofs.events.repeated.Tie as tie
 
 abbrev Inv-loop : tie.InvT-loop
 Inv-loop round all₀ i₀ all i = (i ≤ 1024) × (length all ≡ length all₀)
