@@ -21,7 +21,7 @@ use Rattle.laws.proofs.Splices.{splice-nil}
 use Rattle.core_answers.specs.Performed.{Performed}
 use Rattle.can_state.specs.declared.state.State as can
 use Rattle.can_state.specs.View.{view}
-use Rattle.can_replay.specs.Left.{Left, left, left-of}
+use Rattle.history.specs.Replay.{Whole, whole, whole-of}
 
 abbrev state-checks : List Check
 state-checks = INVALID-STATE if not true ∷ []
@@ -61,8 +61,8 @@ full-passed sheet ram e none =
 
 -- a call that is performed leaves what the rules say
 pub left-is : {o : Outcome (State can-format)} {reason : ℕ} {answer : Answer} {s : State can-format} {count : ℕ} {ram before after : List ℕ}
-    → Performed o reason answer s count ram before after → left s ram after ≡ left-of o before
-left-is {o} {ram} {after} p = ap₂ (λ (x : State can-format) (m : List ℕ). left x m after) (p .state-is) (p .ram-is) ∙ ap (left (o .state) (o .ram)) (p .sheet-is)
+    → Performed o reason answer s count ram before after → whole s ram after ≡ whole-of o before
+left-is {o} {ram} {after} p = ap₂ (λ (x : State can-format) (m : List ℕ). whole x m after) (p .state-is) (p .ram-is) ∙ ap (whole (o .state) (o .ram)) (p .sheet-is)
 
 -- one that tells of nothing leaves any sheet as it was
 none-told : (ns : List Notification) → 0 ≡ length ns → (sheet : List ℕ) → sheet ≡ sheet-after ns sheet
@@ -71,9 +71,9 @@ none-told [] e sheet = sym (splice-nil 0 sheet)
 none-told (n ∷ ns) e sheet = absurd (let e′ : 0 ≡ suc (length ns) = e in omega arith)
 
 pub left-quiet : {o : Outcome (State can-format)} {reason : ℕ} {answer : Answer} {s : State can-format} {ram : List ℕ} → Performed o reason answer s 0 ram [] [] → (sheet : List ℕ)
-    → left s ram sheet ≡ left-of o sheet
-left-quiet {o} p sheet = ap₂ (λ (x : State can-format) (m : List ℕ). left x m sheet) (p .state-is) (p .ram-is) ∙ ap (left (o .state) (o .ram)) (none-told (o .notifications) (p .count-is) sheet)
+    → whole s ram sheet ≡ whole-of o sheet
+left-quiet {o} p sheet = ap₂ (λ (x : State can-format) (m : List ℕ). whole x m sheet) (p .state-is) (p .ram-is) ∙ ap (whole (o .state) (o .ram)) (none-told (o .notifications) (p .count-is) sheet)
 
 -- what is left of a state that was laid into the arrays
-pub laid : {l : Left} {ram sheet : List ℕ} {s t : can.State} → s ≡ t → left (view t) ram sheet ≡ l → left (view s) ram sheet ≡ l
+pub laid : {w : Whole can-format} {ram sheet : List ℕ} {s t : can.State} → s ≡ t → whole (view t) ram sheet ≡ w → whole (view s) ram sheet ≡ w
 laid e d = rw e d

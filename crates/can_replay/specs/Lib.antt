@@ -1,5 +1,4 @@
 -- What the contracts of this crate say beyond the rules.
-pub mod Left
 pub mod Places
 pub mod Gathered
 pub mod Stepped

@@ -1,18 +1,15 @@
 -- A list of events in lent arrays, one array for each field, and the calls that it stands for.
 use Prim.Native.Nat.{ℕ, _-_, _%_, _^_, min}
-use mathlib.Core.Path.{_≡_}
 use mathlib.Core.Bool.{cond, _&&_}
 use mathlib.Core.List.{List, [], _∷_}
 use native.Mathlib.Omega.{arith}
 use lib.ListN.{length, getD}
 use lib.Dec.{leb}
-use Rattle.rules.specs.Repeat.{rising, list-below}
 use Rattle.rules.specs.Bytes.{part}
 use Rattle.rules.specs.Can.{Frame, can-format}
 use Rattle.rules.specs.Chip.{chip}
-use Rattle.history.specs.Call.{Call, Init, DeInit, SetControllerMode, GetControllerMode, Write, MainFunctionWrite, MainFunctionRead, MainFunctionMode, MainFunctionBusOff, TxComplete, BusOffDetected, FrameArrived, performed}
-use Rattle.history.specs.Trace as trace
-use Rattle.can_replay.specs.Left.{Left, left-of}
+use Rattle.history.specs.Call.{Call, Init, DeInit, SetControllerMode, GetControllerMode, Write, MainFunctionWrite, MainFunctionRead, MainFunctionMode, MainFunctionBusOff, TxComplete, BusOffDetected, FrameArrived}
+use Rattle.history.specs.Replay.{Whole, made, replayed}
 
 -- One event: its kind; its object or controller; its identifier, or the mode asked for; its handle; its bytes. The sheet is the one that the
 -- call is handed.
@@ -65,22 +62,14 @@ events-in kinds places values handles starts ends bytes = record { kinds = kinds
 abbrev pub event-count : Events → ℕ
 event-count e = min (length (e .kinds)) (min (length (e .places)) (min (length (e .values)) (min (length (e .handles)) (min (length (e .starts)) (length (e .ends))))))
 
-abbrev pub call-at : List ℕ → Events → ℕ → Call can-format
-call-at sheet e i =
+-- the call of event i, with the sheet that it is handed
+abbrev pub call-at : Events → ℕ → List ℕ → Call can-format
+call-at e i sheet =
     call-of sheet (getD (e .places) i 0) (getD (e .values) i 0) (getD (e .handles) i 0) (bytes-between (getD (e .starts) i 0) (getD (e .ends) i 0) (e .bytes)) (getD (e .kinds) i 0)
 
--- the call of event i, handed what stands there
-abbrev pub made : Events → ℕ → Left → Left
-made e i l = left-of (performed chip can-format (call-at (l .sheet) e i) (l .state) (l .ram)) (l .sheet)
+-- what one of them leaves, and what all of them leave in their order
+abbrev pub made-at : Events → ℕ → Whole can-format → Whole can-format
+made-at e i w = made chip can-format (call-at e) i w
 
--- all of them in their order, "each call handed the state and memory that the last one left", and the sheet too
-unfoldable pub replayed : Events → Left → Left
-replayed e l = rising (event-count e) (made e) l
-
--- the same as a list of calls, each with the sheet that it was handed
-unfoldable pub calls : Events → Left → List (Call can-format)
-calls e l = list-below (event-count e) (λ i. call-at (rising i (made e) l .sheet) e i)
-
--- so what is left of state and memory is what that list leaves
-abbrev pub ReplayRule : Type 0
-ReplayRule = (e : Events) (l : Left) → trace.left-by chip can-format (calls e l) (l .state) (l .ram) ≡ record { state = replayed e l .state; ram = replayed e l .ram }
+abbrev pub all-replayed : Events → Whole can-format → Whole can-format
+all-replayed e w = replayed chip can-format (call-at e) (event-count e) w

@@ -9,7 +9,7 @@ use Rattle.rules.specs.Chip.{chip}
 use Rattle.can_state.specs.declared.state.State.{State}
 use Rattle.can_state.specs.View.{view}
 use Rattle.can_state.specs.Sizes.{Sized}
-use Rattle.can_replay.specs.Left.{Left, left}
+use Rattle.history.specs.Replay.{Whole, whole}
 
 -- a valid state, of the chip's size
 pub record Stands (s : State) : Type 0 where
@@ -17,6 +17,6 @@ pub record Stands (s : State) : Type 0 where
   pub sound : rules.valid chip can-format (view s) ≡ true
 
 -- a call was made: state, memory and sheet are what it leaves, and the state is valid again
-pub record Stepped (l : Left) (s : State) (ram sheet : List ℕ) : Type 0 where
-  pub left-is : left (view s) ram sheet ≡ l
+pub record Stepped (w : Whole can-format) (s : State) (ram sheet : List ℕ) : Type 0 where
+  pub left-is : whole (view s) ram sheet ≡ w
   pub stands : Stands s

@@ -11,7 +11,7 @@ ghost use Rattle.rules.specs.Can.{can-format};
 ghost use Rattle.rules.specs.Chip.{chip};
 ghost use Rattle.core_places.specs.Arrays.{controllers-in, owners-in, mailboxes-in};
 ghost use Rattle.core_places.specs.Held.{Controlled, Held};
-ghost use Rattle.can_replay.specs.Left.{left, left-of};
+ghost use Rattle.history.specs.Replay.{whole, whole-of};
 ghost use Rattle.can_replay.specs.Places.{Places};
 use can_chip::CONTROLLERS;
 use can_chip::OBJECTS;
@@ -37,8 +37,8 @@ pub fn sent(
         → Held (s .core) initialised «object_count» (owners-in (now (owners .entry)) (now (receivings .entry)))
         (controllers-in (now (modes .entry)) (now (requests .entry)) (now (marks .entry)))
         (mailboxes-in (now (pendings .entry)) (now (dones .entry)) (now (fulls .entry)))
-        → left (rules.with-core s (with-mailboxes (s .core) (mailboxes-in (now (pendings .exit)) (now (dones .exit)) (now (fulls .exit))))) ram sheet
-        ≡ left-of (calls.tx-complete chip can-format s ram object) sheet) ⌝ }
+        → whole (rules.with-core s (with-mailboxes (s .core) (mailboxes-in (now (pendings .exit)) (now (dones .exit)) (now (fulls .exit))))) ram sheet
+        ≡ whole-of (calls.tx-complete chip can-format s ram object) sheet) ⌝ }
     ensures places { λ _. ⌜ Places (chip .objects) (now (pendings .exit)) (now (dones .exit)) (now (fulls .exit)) ⌝ }
 {
     let gate = state_gate(true);
@@ -70,8 +70,8 @@ pub fn off(
     requires { ⌜ («controller_count» ≤ chip .controllers) × Places (chip .controllers) (now modes) (now requests) (now marks) ⌝ }
     ensures left { λ _. ⌜ ((s : rules.State can-format) (ram sheet : List ℕ) → rules.valid chip can-format s ≡ true
         → Controlled (s .core) initialised «controller_count» (controllers-in (now (modes .entry)) (now (requests .entry)) (now (marks .entry)))
-        → left (rules.with-core s (with-controllers (s .core) (controllers-in (now (modes .exit)) (now (requests .exit)) (now (marks .exit))))) ram sheet
-        ≡ left-of (calls.bus-off-detected chip can-format s ram controller) sheet) ⌝ }
+        → whole (rules.with-core s (with-controllers (s .core) (controllers-in (now (modes .exit)) (now (requests .exit)) (now (marks .exit))))) ram sheet
+        ≡ whole-of (calls.bus-off-detected chip can-format s ram controller) sheet) ⌝ }
     ensures places { λ _. ⌜ Places (chip .controllers) (now (modes .exit)) (now (requests .exit)) (now (marks .exit)) ⌝ }
 {
     let gate = state_gate(true);

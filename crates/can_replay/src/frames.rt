@@ -11,7 +11,7 @@ ghost use Rattle.rules.specs.Chip.{chip};
 ghost use Rattle.core_places.specs.Arrays.{controllers-in, owners-in, mailboxes-in};
 ghost use Rattle.core_places.specs.Held.{Controlled, Held};
 ghost use Rattle.can_state.specs.View.{settings-in};
-ghost use Rattle.can_replay.specs.Left.{left, left-of};
+ghost use Rattle.history.specs.Replay.{whole, whole-of};
 ghost use Rattle.can_replay.specs.Places.{Places};
 use can_arrivals::lent::arrive_lent;
 use can_chip::CONTROLLERS;
@@ -53,8 +53,8 @@ pub fn write(
         (controllers-in (now (modes .entry)) (now (requests .entry)) (now (marks .entry)))
         (mailboxes-in (now (pendings .entry)) (now (dones .entry)) (now (fulls .entry)))
         → s .settings ≡ settings-in (now (payloads .entry)) (now (paddings .entry)) (now (codes .entry)) (now (masks .entry))
-        → left (rules.with-core s (with-mailboxes (s .core) (mailboxes-in (now (pendings .exit)) (now (dones .exit)) (now (fulls .exit))))) (now (ram .exit)) (now (sheet .exit))
-        ≡ left-of
+        → whole (rules.with-core s (with-mailboxes (s .core) (mailboxes-in (now (pendings .exit)) (now (dones .exit)) (now (fulls .exit))))) (now (ram .exit)) (now (sheet .exit))
+        ≡ whole-of
         (calls.write chip can-format s (length (now (sheet .entry))) (now (ram .entry)) object handle (record { identifier = identifier; sdu = now (sdu .entry) }))
         (now (sheet .entry))) ⌝ }
     ensures places { λ _. ⌜ Places (chip .objects) (now (pendings .exit)) (now (dones .exit)) (now (fulls .exit)) ⌝ }
@@ -115,8 +115,8 @@ pub fn arrive(
         (controllers-in (now (modes .entry)) (now (requests .entry)) (now (marks .entry)))
         (mailboxes-in (now (pendings .entry)) (now (dones .entry)) (now (fulls .entry)))
         → s .settings ≡ settings-in (now (payloads .entry)) (now (paddings .entry)) (now (codes .entry)) (now (masks .entry))
-        → left (rules.with-core s (with-mailboxes (s .core) (mailboxes-in (now (pendings .exit)) (now (dones .exit)) (now (fulls .exit))))) (now (ram .exit)) (now (sheet .exit))
-        ≡ left-of
+        → whole (rules.with-core s (with-mailboxes (s .core) (mailboxes-in (now (pendings .exit)) (now (dones .exit)) (now (fulls .exit))))) (now (ram .exit)) (now (sheet .exit))
+        ≡ whole-of
         (calls.frame-arrived chip can-format s (length (now (sheet .entry))) (now (ram .entry)) controller (record { identifier = identifier; sdu = now (sdu .entry) }))
         (now (sheet .entry))) ⌝ }
     ensures places { λ _. ⌜ Places (chip .objects) (now (pendings .exit)) (now (dones .exit)) (now (fulls .exit)) ⌝ }

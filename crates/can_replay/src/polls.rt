@@ -14,7 +14,7 @@ ghost use Rattle.core_places.specs.Arrays.{controllers-in, mailboxes-in};
 ghost use Rattle.core_sweeps.specs.Visits.{visit-of};
 ghost use Rattle.core_polls.specs.Turns.{turn-of};
 ghost use Rattle.core_polls.specs.Swept.{Holds};
-ghost use Rattle.can_replay.specs.Left.{left, left-of};
+ghost use Rattle.history.specs.Replay.{whole, whole-of};
 ghost use Rattle.can_replay.specs.Places.{Places};
 use can_chip::CONTROLLERS;
 use can_chip::OBJECT_SIZE;
@@ -43,8 +43,8 @@ pub fn objects(
     ensures left { λ _. ⌜ ((s : rules.State can-format) → rules.valid chip can-format s ≡ true
         → Holds (s .core) (s .core .controller-count) «object_count» (now (owners .entry)) (s .core .controllers)
         (mailboxes-in (now (pendings .entry)) (now (dones .entry)) (now (fulls .entry)))
-        → left (rules.with-core s (with-mailboxes (s .core) (mailboxes-in (now (pendings .exit)) (now (dones .exit)) (now (fulls .exit))))) (now (ram .entry)) (now (sheet .exit))
-        ≡ left-of
+        → whole (rules.with-core s (with-mailboxes (s .core) (mailboxes-in (now (pendings .exit)) (now (dones .exit)) (now (fulls .exit))))) (now (ram .entry)) (now (sheet .exit))
+        ≡ whole-of
         (outcomes.lifted s
         (objects-polled (full-gate chip can-format s (length (now (sheet .entry))) (now (ram .entry)))
         (visit-of visit (chip .object-size) false (s .core .owners) (now (ram .entry))) (s .core) (now (ram .entry))))
@@ -88,11 +88,11 @@ pub fn controllers(
         → Holds (s .core) «controller_count» «object_count» (now (owners .entry))
         (controllers-in (now (modes .entry)) (now (requests .entry)) (now (marks .entry)))
         (mailboxes-in (now (pendings .entry)) (now (dones .entry)) (now (fulls .entry)))
-        → left
+        → whole
         (rules.with-core s
         (with-mailboxes (with-controllers (s .core) (controllers-in (now (modes .exit)) (now (requests .exit)) (now (marks .exit))))
         (mailboxes-in (now (pendings .exit)) (now (dones .exit)) (now (fulls .exit))))) (now (ram .entry)) (now (sheet .exit))
-        ≡ left-of
+        ≡ whole-of
         (outcomes.lifted s
         (controllers-polled (full-gate chip can-format s (length (now (sheet .entry))) (now (ram .entry))) (chip .object-size) (turn-of turn) (s .core)
         (now (ram .entry))))

@@ -3,10 +3,10 @@ ghost use mathlib.Core.Path.{_≡_};
 ghost use mathlib.Core.List.{List};
 ghost use Prim.Native.Nat.{ℕ, _<_};
 ghost use Rattle.can_state.specs.View.{view};
-ghost use Rattle.can_replay.specs.Left.{left};
+ghost use Rattle.history.specs.Replay.{whole};
 ghost use Rattle.can_replay.specs.Gathered.{gathered};
 ghost use Rattle.can_replay.specs.Stepped.{Stands, Stepped};
-ghost use Rattle.can_replay.specs.Replayed.{bytes-between, events-in, event-count, made, replayed};
+ghost use Rattle.can_replay.specs.Replayed.{bytes-between, events-in, event-count, made-at, all-replayed};
 use crate::step::step;
 use can_chip::CONTROLLERS;
 use can_chip::OBJECTS;
@@ -78,10 +78,10 @@ fn event(
         (gathered (now initialised) (now «controller_count») (now «object_count») (now modes) (now requests) (now marks) (now owners) (now receivings) (now pendings) (now dones) (now fulls) (now payloads) (now paddings)
         (now codes) (now masks)) ⌝ }
     ensures { λ _. ⌜ Stepped
-        (made
+        (made-at
         (events-in (now (kinds .entry)) (now (places .entry)) (now (values .entry)) (now (handles .entry)) (now (starts .entry)) (now (ends .entry))
         (now («data» .entry))) i
-        (left
+        (whole
         (view
         (gathered (now (initialised .entry)) (now («controller_count» .entry)) (now («object_count» .entry)) (now (modes .entry)) (now (requests .entry)) (now (marks .entry)) (now (owners .entry)) (now (receivings .entry))
         (now (pendings .entry)) (now (dones .entry)) (now (fulls .entry)) (now (payloads .entry)) (now (paddings .entry)) (now (codes .entry)) (now (masks .entry))))
@@ -149,15 +149,15 @@ fn play(
     requires { ⌜ Stands
         (gathered (now initialised) (now «controller_count») (now «object_count») (now modes) (now requests) (now marks) (now owners) (now receivings) (now pendings) (now dones) (now fulls) (now payloads) (now paddings)
         (now codes) (now masks)) ⌝ }
-    ensures { λ _. ⌜ left
+    ensures { λ _. ⌜ whole
         (view
         (gathered (now (initialised .exit)) (now («controller_count» .exit)) (now («object_count» .exit)) (now (modes .exit)) (now (requests .exit)) (now (marks .exit)) (now (owners .exit)) (now (receivings .exit))
         (now (pendings .exit)) (now (dones .exit)) (now (fulls .exit)) (now (payloads .exit)) (now (paddings .exit)) (now (codes .exit)) (now (masks .exit))))
         (now (ram .exit)) (now (sheet .exit))
-        ≡ replayed
+        ≡ all-replayed
         (events-in (now (kinds .entry)) (now (places .entry)) (now (values .entry)) (now (handles .entry)) (now (starts .entry)) (now (ends .entry))
         (now («data» .entry)))
-        (left
+        (whole
         (view
         (gathered (now (initialised .entry)) (now («controller_count» .entry)) (now («object_count» .entry)) (now (modes .entry)) (now (requests .entry)) (now (marks .entry)) (now (owners .entry)) (now (receivings .entry))
         (now (pendings .entry)) (now (dones .entry)) (now (fulls .entry)) (now (payloads .entry)) (now (paddings .entry)) (now (codes .entry)) (now (masks .entry))))
@@ -208,11 +208,11 @@ pub fn replay(
     ram: &mut [u8],
     sheet: &mut [u32],
 ) -> State
-    ensures { λ r. ⌜ left (view r) (now (ram .exit)) (now (sheet .exit))
-        ≡ replayed
+    ensures { λ r. ⌜ whole (view r) (now (ram .exit)) (now (sheet .exit))
+        ≡ all-replayed
         (events-in (now (kinds .entry)) (now (places .entry)) (now (values .entry)) (now (handles .entry)) (now (starts .entry)) (now (ends .entry))
         (now («data» .entry)))
-        (left (view state) (now (ram .entry)) (now (sheet .entry))) ⌝ }
+        (whole (view state) (now (ram .entry)) (now (sheet .entry))) ⌝ }
 {
     if !valid(state) {
         return state;

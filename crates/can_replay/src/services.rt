@@ -11,7 +11,7 @@ ghost use Rattle.rules.specs.Can.{can-format};
 ghost use Rattle.rules.specs.Chip.{chip};
 ghost use Rattle.core_places.specs.Arrays.{controllers-in};
 ghost use Rattle.core_places.specs.Held.{Controlled};
-ghost use Rattle.can_replay.specs.Left.{left, left-of};
+ghost use Rattle.history.specs.Replay.{whole, whole-of};
 ghost use Rattle.can_replay.specs.Places.{Places};
 use can_chip::CONTROLLERS;
 use can_chip::SHEET_SIZE;
@@ -31,8 +31,8 @@ pub fn set_mode(
     requires { ⌜ («controller_count» ≤ chip .controllers) × Places (chip .controllers) (now modes) (now requests) (now marks) ⌝ }
     ensures left { λ _. ⌜ ((s : rules.State can-format) (ram : List ℕ) → rules.valid chip can-format s ≡ true
         → Controlled (s .core) initialised «controller_count» (controllers-in (now (modes .entry)) (now (requests .entry)) (now (marks .entry)))
-        → left (rules.with-core s (with-controllers (s .core) (controllers-in (now (modes .exit)) (now (requests .exit)) (now (marks .exit))))) ram (now (sheet .exit))
-        ≡ left-of (calls.set-controller-mode chip can-format s (length (now (sheet .entry))) ram controller asked) (now (sheet .entry))) ⌝ }
+        → whole (rules.with-core s (with-controllers (s .core) (controllers-in (now (modes .exit)) (now (requests .exit)) (now (marks .exit))))) ram (now (sheet .exit))
+        ≡ whole-of (calls.set-controller-mode chip can-format s (length (now (sheet .entry))) ram controller asked) (now (sheet .entry))) ⌝ }
     ensures places { λ _. ⌜ Places (chip .controllers) (now (modes .exit)) (now (requests .exit)) (now (marks .exit)) ⌝ }
 {
     let gate = sheet_gate(true, sheet.len(), SHEET_SIZE);
@@ -62,7 +62,7 @@ pub fn get_mode(
     requires { ⌜ Places (chip .controllers) (now modes) (now requests) (now marks) ⌝ }
     ensures { λ _. ⌜ ((s : rules.State can-format) (ram : List ℕ) → rules.valid chip can-format s ≡ true
         → Controlled (s .core) initialised «controller_count» (controllers-in (now (modes .entry)) (now (requests .entry)) (now (marks .entry)))
-        → left s ram (now (sheet .exit)) ≡ left-of (calls.get-controller-mode chip can-format s (length (now (sheet .entry))) ram controller) (now (sheet .entry))) ⌝ }
+        → whole s ram (now (sheet .exit)) ≡ whole-of (calls.get-controller-mode chip can-format s (length (now (sheet .entry))) ram controller) (now (sheet .entry))) ⌝ }
 {
     let gate = sheet_gate(true, sheet.len(), SHEET_SIZE);
     core_services::get_controller_mode::get_controller_mode(

@@ -3,7 +3,7 @@ ghost use Rattle.rules.specs.Can.{can-format};
 ghost use Rattle.rules.specs.Chip.{chip};
 ghost use Rattle.history.specs.Call.{performed};
 ghost use Rattle.can_state.specs.View.{view};
-ghost use Rattle.can_replay.specs.Left.{left-of};
+ghost use Rattle.history.specs.Replay.{whole-of};
 ghost use Rattle.can_replay.specs.Gathered.{gathered};
 ghost use Rattle.can_replay.specs.Stepped.{Stands, Stepped};
 ghost use Rattle.can_replay.specs.Replayed.{call-of};
@@ -51,7 +51,7 @@ pub fn step(
         (gathered (now initialised) (now «controller_count») (now «object_count») (now modes) (now requests) (now marks) (now owners) (now receivings) (now pendings) (now dones) (now fulls) (now payloads) (now paddings)
         (now codes) (now masks)) ⌝ }
     ensures { λ _. ⌜ Stepped
-        (left-of
+        (whole-of
         (performed chip can-format (call-of (now (sheet .entry)) place value handle (now (bytes .entry)) kind)
         (view
         (gathered (now (initialised .entry)) (now («controller_count» .entry)) (now («object_count» .entry)) (now (modes .entry)) (now (requests .entry)) (now (marks .entry)) (now (owners .entry)) (now (receivings .entry))

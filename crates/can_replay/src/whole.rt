@@ -6,7 +6,7 @@ ghost use Rattle.rules.specs.Can.{can-format};
 ghost use Rattle.rules.specs.Chip.{chip};
 ghost use Rattle.can_state.specs.View.{view};
 ghost use Rattle.can_state.specs.Sizes.{Sized};
-ghost use Rattle.can_replay.specs.Left.{left, left-of};
+ghost use Rattle.history.specs.Replay.{whole, whole-of};
 ghost use Rattle.can_replay.specs.Gathered.{gathered};
 use can_chip::CONTROLLERS;
 use can_chip::OBJECTS;
@@ -139,12 +139,12 @@ pub fn init(
     sheet: &mut [u32],
     bytes: &[u8],
 )
-    ensures left { λ _. ⌜ left
+    ensures left { λ _. ⌜ whole
         (view
         (gathered (now (initialised .exit)) (now («controller_count» .exit)) (now («object_count» .exit)) (now (modes .exit)) (now (requests .exit)) (now (marks .exit)) (now (owners .exit)) (now (receivings .exit))
         (now (pendings .exit)) (now (dones .exit)) (now (fulls .exit)) (now (payloads .exit)) (now (paddings .exit)) (now (codes .exit)) (now (masks .exit))))
         (now (ram .exit)) (now (sheet .exit))
-        ≡ left-of
+        ≡ whole-of
         (calls.init chip can-format
         (view
         (gathered (now (initialised .entry)) (now («controller_count» .entry)) (now («object_count» .entry)) (now (modes .entry)) (now (requests .entry)) (now (marks .entry)) (now (owners .entry)) (now (receivings .entry))
@@ -213,12 +213,12 @@ pub fn deinit(
     ram: &mut [u8],
     sheet: &mut [u32],
 )
-    ensures left { λ _. ⌜ left
+    ensures left { λ _. ⌜ whole
         (view
         (gathered (now (initialised .exit)) (now («controller_count» .exit)) (now («object_count» .exit)) (now (modes .exit)) (now (requests .exit)) (now (marks .exit)) (now (owners .exit)) (now (receivings .exit))
         (now (pendings .exit)) (now (dones .exit)) (now (fulls .exit)) (now (payloads .exit)) (now (paddings .exit)) (now (codes .exit)) (now (masks .exit))))
         (now (ram .exit)) (now (sheet .exit))
-        ≡ left-of
+        ≡ whole-of
         (calls.deinit chip can-format
         (view
         (gathered (now (initialised .entry)) (now («controller_count» .entry)) (now («object_count» .entry)) (now (modes .entry)) (now (requests .entry)) (now (marks .entry)) (now (owners .entry)) (now (receivings .entry))

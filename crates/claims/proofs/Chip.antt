@@ -8,10 +8,12 @@ use Rattle.history.specs.Claim.{HistoryRule, ReferenceRule}
 use Rattle.history.specs.PollRule.{PollRule}
 use Rattle.history.specs.Demand1.{RefusalRule, ValidRule}
 use Rattle.history.specs.Operators.{OthersRule, ReceivedRule}
+use Rattle.history.specs.Replay.{ReplayRule}
 use Rattle.history.proofs.Proved.{demand-3, reference-rule}
 use Rattle.history.proofs.PollRule.{poll-rule}
 use Rattle.history.proofs.Demand1.{refusal-rule, valid-rule}
 use Rattle.history.proofs.Operators.{others-rule, received-rule}
+use Rattle.history.proofs.Replay.{replay-rule}
 use Rattle.can_layout.proofs.Lawful.{can-lawful}
 
 -- demand 1: a call that does not return 0 leaves state and memory as they were, and writes its one error record or nothing
@@ -45,3 +47,7 @@ chip-others-rule = others-rule chip can-format
 -- a received frame survives every poll but the read poll
 pub chip-received-rule : ReceivedRule chip can-format
 chip-received-rule = received-rule chip can-format
+
+-- calls that are handed one sheet, one after the other, leave what the list of them leaves
+pub chip-replay-rule : ReplayRule chip can-format
+chip-replay-rule = replay-rule chip can-format

@@ -1,4 +1,4 @@
--- The proofs of demand 3, of the poll rule, of demand 1 and of what operators ask.
+-- The proofs of demand 3, of the poll rule, of demand 1, of what operators ask and of calls on one sheet.
 pub mod Judged
 pub mod Notices
 pub mod Sweeps
@@ -13,3 +13,4 @@ pub mod PollRule
 pub mod Proved
 pub mod Demand1
 pub mod Operators
+pub mod Replay

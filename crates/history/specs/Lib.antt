@@ -1,4 +1,4 @@
--- Demand 3, to be read in this order; demand 2's poll rule; demand 1; and what operators ask.
+-- Demand 3, to be read in this order; demand 2's poll rule; demand 1; what operators ask; and calls on one sheet.
 pub mod Call
 pub mod Trace
 pub mod Effect
@@ -8,3 +8,4 @@ pub mod Claim
 pub mod PollRule
 pub mod Demand1
 pub mod Operators
+pub mod Replay

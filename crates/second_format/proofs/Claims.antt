@@ -6,10 +6,12 @@ use Rattle.history.specs.Claim.{HistoryRule, ReferenceRule}
 use Rattle.history.specs.PollRule.{PollRule}
 use Rattle.history.specs.Demand1.{RefusalRule, ValidRule}
 use Rattle.history.specs.Operators.{OthersRule, ReceivedRule}
+use Rattle.history.specs.Replay.{ReplayRule}
 use Rattle.history.proofs.Proved.{demand-3, reference-rule}
 use Rattle.history.proofs.PollRule.{poll-rule}
 use Rattle.history.proofs.Demand1.{refusal-rule, valid-rule}
 use Rattle.history.proofs.Operators.{others-rule, received-rule}
+use Rattle.history.proofs.Replay.{replay-rule}
 use Rattle.second_format.specs.Ranged.{ranged-format, small-chip}
 use Rattle.second_format.proofs.Lawful.{ranged-lawful}
 
@@ -44,3 +46,7 @@ ranged-others-rule = others-rule small-chip ranged-format
 -- a received frame survives every poll but the read poll
 pub ranged-received-rule : ReceivedRule small-chip ranged-format
 ranged-received-rule = received-rule small-chip ranged-format
+
+-- calls that are handed one sheet, one after the other, leave what the list of them leaves
+pub ranged-replay-rule : ReplayRule small-chip ranged-format
+ranged-replay-rule = replay-rule small-chip ranged-format

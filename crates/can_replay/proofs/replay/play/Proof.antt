@@ -3,8 +3,8 @@ use Prim.Native.Nat.{_-_, _≤_}
 use mathlib.Core.Path.{sym, _∙_}
 use native.Mathlib.Omega.{arith}
 use borrow.Author.Needs.{needs}
+use Rattle.history.specs.Replay.{whole}
 use Rattle.can_state.specs.View.{view}
-use Rattle.can_replay.specs.Left.{left}
 use Rattle.can_replay.specs.Gathered.{gathered}
 use Rattle.can_replay.specs.Replayed.{events-in}
 use Rattle.can_replay.proofs.Plays.{Playing, playing-begins, playing-goes-on, playing-ends}
@@ -13,7 +13,7 @@ use Rattle.can_replay.proofs.replay.play.Tie as tie
 
 abbrev Inv-loop : tie.InvT-loop
 Inv-loop kinds places values handles starts ends «data» initialised₀ controller-count₀ object-count₀ modes₀ requests₀ marks₀ owners₀ receivings₀ pendings₀ dones₀ fulls₀ payloads₀ paddings₀ codes₀ masks₀ ram₀ sheet₀ count i₀ initialised controller-count object-count modes requests marks owners receivings pendings dones fulls payloads paddings codes masks ram sheet i =
-    Playing (events-in kinds places values handles starts ends «data») (left (view (gathered initialised₀ controller-count₀ object-count₀ modes₀ requests₀ marks₀ owners₀ receivings₀ pendings₀ dones₀ fulls₀ payloads₀ paddings₀ codes₀ masks₀)) ram₀ sheet₀)
+    Playing (events-in kinds places values handles starts ends «data») (whole (view (gathered initialised₀ controller-count₀ object-count₀ modes₀ requests₀ marks₀ owners₀ receivings₀ pendings₀ dones₀ fulls₀ payloads₀ paddings₀ codes₀ masks₀)) ram₀ sheet₀)
     (gathered initialised controller-count object-count modes requests marks owners receivings pendings dones fulls payloads paddings codes masks) ram sheet i
     × (i ≤ count)
 

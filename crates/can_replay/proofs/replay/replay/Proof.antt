@@ -1,10 +1,12 @@
 -- A valid state stands in the arrays when the calls begin, and what stands there in the end is handed back. Any other state stays as it is.
 use mathlib.Core.Path.{sym, _∙_}
 use Rattle.laws.proofs.Tests.{not-true, not-false}
+use Rattle.rules.specs.Can.{can-format}
+use Rattle.rules.specs.Chip.{chip}
+use Rattle.history.proofs.Replay.{unsound-stays}
 use Rattle.can_state.specs.View.{view}
 use Rattle.can_state.proofs.Sizes.{sizes}
-use Rattle.can_replay.specs.Replayed.{events-in, replayed}
-use Rattle.can_replay.proofs.Plays.{unsound-stays}
+use Rattle.can_replay.specs.Replayed.{events-in, call-at}
 use borrow.Author.Needs.{needs}
 use Rattle.can_replay.proofs.replay.replay.Statement.{statement}
 use Rattle.can_replay.proofs.replay.replay.Tie as tie
@@ -13,10 +15,9 @@ valid-requires : tie.Need-valid-requires
 valid-requires c κs = search needs
 
 returns : tie.Need-returns
-unfolding replayed
 returns c =
     let a = c .before .before .before .before .before .before .before .before .before .before .before .args in
-    unsound-stays (view (a .state)) (a .ram .now) (sym (c .before .valid .ensures) ∙ not-true _ (c .if1 .taken)) (events-in (a .kinds .now) (a .places .now) (a .values .now) (a .handles .now) (a .starts .now) (a .ends .now) (a .«data» .now)) _ (a .sheet .now)
+    unsound-stays chip can-format (view (a .state)) (a .ram .now) (sym (c .before .valid .ensures) ∙ not-true _ (c .if1 .taken)) (call-at (events-in (a .kinds .now) (a .places .now) (a .values .now) (a .handles .now) (a .starts .now) (a .ends .now) (a .«data» .now))) _ (a .sheet .now)
 
 play-requires : tie.Need-play-requires
 play-requires c κs =
