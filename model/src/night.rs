@@ -7,11 +7,13 @@ use crate::lines::{Line, Lines};
 use crate::script::{self, Trouble};
 use crate::words;
 
-/// A bench and the number of the line it is at.
+/// A bench, the number of the line it is at, how many lines were not understood, and the first of them.
 #[derive(Default)]
 pub struct Night {
     bench: Bench,
     line: u64,
+    bad: u64,
+    first_bad: u64,
     bytes: Vec<u8>,
 }
 
@@ -32,13 +34,35 @@ impl Night {
         match read {
             Ok(Some(command)) => words::print(out, self.line, &self.bench.play(command)),
             Ok(None) => (),
-            Err(trouble) => words::print_trouble(out, self.line, trouble),
+            Err(trouble) => {
+                if self.bad == 0 {
+                    self.first_bad = self.line;
+                }
+                self.bad += 1;
+                words::print_trouble(out, self.line, trouble);
+            }
         }
+    }
+
+    /// What the bench says on standard error of a night that was read whole: nothing where every line was understood.
+    pub fn complaint(&self) -> String {
+        if self.bad == 0 {
+            return String::new();
+        }
+        format!(
+            "bench: {} of {} lines not understood, first at line {}\n",
+            self.bad, self.line, self.first_bad
+        )
+    }
+
+    /// The end of a night that was read whole: `end LINES BAD`, lines read and lines not understood.
+    pub fn end(&self, out: &mut Vec<u8>) {
+        out.extend_from_slice(format!("end {} {}\n", self.line, self.bad).as_bytes());
     }
 }
 
-/// Plays a whole script from a fresh bench.
-pub fn play(script: impl BufRead, mut output: impl Write) -> io::Result<()> {
+/// Plays a whole script from a fresh bench, and answers how it stands in the end.
+pub fn play(script: impl BufRead, mut output: impl Write) -> io::Result<Night> {
     let mut lines = Lines::new(script);
     let mut night = Night::default();
     let mut answer = Vec::new();
@@ -47,5 +71,9 @@ pub fn play(script: impl BufRead, mut output: impl Write) -> io::Result<()> {
         night.play_line(line, &mut answer);
         output.write_all(&answer)?;
     }
-    output.flush()
+    answer.clear();
+    night.end(&mut answer);
+    output.write_all(&answer)?;
+    output.flush()?;
+    Ok(night)
 }

@@ -37,9 +37,9 @@ fn a_wrong_bench_is_found_and_the_night_shrunk() {
     assert!(lines[1].starts_with("    model: ") && lines[1].ends_with(" write 2 36 -"), "{said}");
     assert!(lines[2].starts_with("    bench: ") && lines[2].ends_with(" write 2 35 -"), "{said}");
     assert_eq!(lines[3], "the whole night: nights 1 1000 calm");
-    // Init, a request, the mode poll and two writes; then five answers of each.
+    // Init, a request, the mode poll and two writes; then five answers of each, and the end.
     assert!(lines[4].ends_with(" trials: 5"), "{said}");
-    let [.., model, _, _, _, _, _, bench] = lines[..] else { panic!("{said}") };
+    let [.., model, _, _, _, _, _, _, bench, _] = lines[..] else { panic!("{said}") };
     assert_eq!((model, bench), ("    5 write 2 36 -", "    5 write 2 35 -"));
 }
 

@@ -255,7 +255,9 @@ fn the_maker_answers_as_the_program_does() {
             script.extend(maker.next_line());
             answers.extend_from_slice(maker.last_answer());
         }
-        pump_model::night::play(&script[..], &mut output).expect("no trouble in memory");
+        let night =
+            pump_model::night::play(&script[..], &mut output).expect("no trouble in memory");
+        night.end(&mut answers);
         assert_eq!(output, answers);
     }
 }

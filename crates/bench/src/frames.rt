@@ -5,11 +5,13 @@ use crate::print::right;
 use crate::print::to_column;
 use bench_text::put::put;
 use bench_text::put::put_hexadecimal;
+use bench_words::piece::piece;
 use can::OBJECT_SIZE;
 use can::OBJECTS;
 use can::RAM_SIZE;
 use can_frame::identifier::is_extended;
 use can_frame::identifier::is_fd;
+use core_layout::head::handle_at;
 use core_layout::head::identifier_at;
 
 // The identifier word that an object's bytes begin with; 0 where there is no such object.
@@ -24,11 +26,21 @@ pub fn identifier_in(ram: &[u8], object: u32) -> u32 {
     identifier_at(ram, OBJECT_SIZE, h)
 }
 
-// An identifier without the two marks, which follow it in words.
+// The handle that an object's bytes name; 0 where there is no such object.
+pub fn handle_in(ram: &[u8], object: u32) -> u32 {
+    let h = object as usize;
+    if OBJECTS <= h {
+        return 0;
+    }
+    if ram.len() != RAM_SIZE {
+        return 0;
+    }
+    handle_at(ram, OBJECT_SIZE, h)
+}
+
+// An identifier as it is typed, with at least three digits, and what its marks say in words.
 pub fn identifier(out: &mut [u8], at: usize, identifier: u32) -> usize {
-    let number = (identifier % 0x40000000) as u64;
-    let width = if is_extended(identifier) { 8 } else { 3 };
-    let mut end = put_hexadecimal(out, at, number, width);
+    let mut end = put_hexadecimal(out, at, identifier as u64, 3);
     end = extended_mark(out, end, identifier);
     fd_mark(out, end, identifier)
 }
@@ -93,13 +105,17 @@ pub fn whole(
     put(out, end, b"\n")
 }
 
+// How many modes have a name.
+const MODES: u32 = 4;
+
 // A mode by its name.
 pub fn mode(out: &mut [u8], at: usize, mode: u32) -> usize {
-    match mode {
-        0 => put(out, at, b"UNINIT"),
-        1 => put(out, at, b"STARTED"),
-        2 => put(out, at, b"STOPPED"),
-        3 => put(out, at, b"SLEEP"),
-        _ => numbered(out, at, b"mode ", mode as u64),
+    if mode < MODES {
+        return put(
+            out,
+            at,
+            piece(b"UNINIT|STARTED|STOPPED|SLEEP", mode as usize),
+        );
     }
+    numbered(out, at, b"mode ", mode as u64)
 }

@@ -1,18 +1,24 @@
 // The whole of a script, played line by line.
 ghost use mathlib.Core.Path.{_≡_};
 ghost use lib.ListN.{length};
+use crate::heard;
+use crate::heard::Heard;
+use crate::heard::sought;
 use crate::line;
 use crate::night;
 use crate::night::Night;
+use crate::print::numbered;
+use crate::report;
 use crate::summary;
+use crate::waiting;
 use bench_lines::count::of_bytes;
-use bench_lines::reader;
-use bench_lines::reader::Reader;
-use bench_lines::reader::advanced;
+use bench_lines::reader::will_read;
 use bench_script::command::LARGEST_MEMORY;
 use bench_script::command::LARGEST_SHEET;
+use bench_text::put::put;
 use bench_words::bytes::LONGEST_LINE;
 use bench_words::bytes::MOST_BYTES;
+use can::RAM_SIZE;
 use libc::STDOUT_FILENO;
 
 // A line, and the CR before its LF or the byte that makes a line too long.
@@ -28,12 +34,13 @@ fn taken_list() -> [u8; TAKEN_ROOM]
     [0; TAKEN_ROOM]
 }
 
-// Writes what stands in the output buffer.
+// Writes what stands in the output buffer. Where that fails the night is stopped.
 fn written(night: Night, out: &[u8]) -> Night {
     let end = of_bytes(night.at, out);
-    io::write_all(STDOUT_FILENO, &out[..end]);
+    let done = io::write_all(STDOUT_FILENO, &out[..end]);
     let mut next = night;
     next.at = 0;
+    next.stuck = night.stuck | !done;
     next
 }
 
@@ -45,10 +52,10 @@ fn written_if_full(night: Night, out: &[u8]) -> Night {
     written(night, out)
 }
 
-// Plays the line that is read, once it is whole.
+// Plays the line that is read, if it says something.
 fn played(
     night: Night,
-    reader: Reader,
+    heard: Heard,
     line: &[u8],
     memory: &mut [u8],
     sheet: &mut [u32],
@@ -56,21 +63,24 @@ fn played(
     out: &mut [u8],
     taken: &mut [u8],
 ) -> Night {
-    if !reader.whole {
+    if !heard.said {
         return night;
     }
+    let reader = heard.reader;
     let end = of_bytes(reader.count, line);
-    let next = line::play(night, &line[..end], memory, sheet, bytes, out, taken);
+    let mut next = night;
+    next.line = heard.lines;
+    next = line::play(next, &line[..end], memory, sheet, bytes, out, taken);
     written_if_full(next, out)
 }
 
 // A night, and how far its script is read.
 struct Playing {
     night: Night,
-    reader: Reader,
+    heard: Heard,
 }
 
-// One step on in the script, and in the night if that makes a line whole.
+// On to the next line that says something, which is played. What is played so far is written out before a read that may wait.
 fn step(
     playing: Playing,
     input: &mut [u8],
@@ -81,14 +91,26 @@ fn step(
     out: &mut [u8],
     taken: &mut [u8],
 ) -> Playing {
-    let night = playing.night;
-    let before = playing.reader;
-    let reader = advanced(before, input, line);
-    let next = played(night, reader, line, memory, sheet, bytes, out, taken);
-    Playing {
-        night: next,
-        reader: reader,
+    let mut night = playing.night;
+    let before = playing.heard;
+    let reader = before.reader;
+    if will_read(reader, input) {
+        night = written(night, out);
     }
+    let heard = sought(before, input, line);
+    night = played(night, heard, line, memory, sheet, bytes, out, taken);
+    Playing {
+        night: night,
+        heard: heard,
+    }
+}
+
+// Whether nothing more is played.
+fn is_over(playing: Playing) -> bool {
+    let heard = playing.heard;
+    let reader = heard.reader;
+    let night = playing.night;
+    reader.ended | night.stuck
 }
 
 // Plays the script to its end. Nothing says that an input ends, so the steps are counted down, from more than there can be.
@@ -106,8 +128,7 @@ fn all(
     let mut steps: u64 = 0xFFFFFFFFFFFFFFFF;
     while 0 < steps {
         playing = step(playing, input, line, memory, sheet, bytes, out, taken);
-        let reader = playing.reader;
-        steps = if reader.ended { 0 } else { steps - 1 };
+        steps = if is_over(playing) { 0 } else { steps - 1 };
     }
     playing
 }
@@ -115,41 +136,80 @@ fn all(
 // A fresh bench, with nothing of the script read yet.
 fn start(plain: bool) -> Playing {
     let night = night::begun(plain);
-    let reader = reader::begun();
+    let heard = heard::nothing();
     Playing {
         night: night,
-        reader: reader,
+        heard: heard,
     }
 }
 
-// Writes the totals of a night behind what stands in the output buffer.
-fn summed_up(night: Night, out: &mut [u8]) {
+// Writes the totals of a night behind what stands in the output buffer, and the frames that still wait.
+fn summed_up(night: Night, ram: &[u8], out: &mut [u8]) -> Night {
     let state = night.state;
     let tally = night.tally;
     let mut last = night;
     last.at = summary::totals(out, night.at, tally, state);
+    last.at = waiting::list(out, last.at, night, ram);
     last.at = summary::heading(out, last.at, tally);
-    written(last, out);
+    written(last, out)
 }
 
 // Writes the list of frames that a bus-off took.
-fn listed(night: Night, out: &mut [u8], taken: &[u8]) {
+fn listed(night: Night, out: &mut [u8], taken: &[u8]) -> Night {
     let tally = night.tally;
     let end = of_bytes(night.taken_at, taken);
-    io::write_all(STDOUT_FILENO, &taken[..end]);
+    let done = io::write_all(STDOUT_FILENO, &taken[..end]);
     let mut last = night;
+    last.stuck = night.stuck | !done;
     last.at = summary::unlisted(out, 0, tally);
-    written(last, out);
+    written(last, out)
 }
 
-// The end of a night: in plain words its totals, and the frames that a bus-off took.
-fn finished(night: Night, out: &mut [u8], taken: &[u8]) {
+// `end LINES BAD`: lines read, and lines not understood.
+fn counted(night: Night, lines: u64, out: &mut [u8]) -> Night {
+    let tally = night.tally;
+    let mut last = night;
+    last.at = numbered(out, night.at, b"end ", lines);
+    last.at = numbered(out, last.at, b" ", tally.unreadable);
+    last.at = put(out, last.at, b"\n");
+    written(last, out)
+}
+
+// The end of a night that was played whole: in plain words its totals, the frames that still wait, and those that a bus-off took.
+fn finished(night: Night, lines: u64, ram: &[u8], out: &mut [u8], taken: &[u8]) -> Night {
     if night.plain {
-        summed_up(night, out);
-        listed(night, out, taken);
-    } else {
-        written(night, out);
+        let last = summed_up(night, ram, out);
+        return listed(last, out, taken);
     }
+    counted(night, lines, out)
+}
+
+// Says on standard error what went wrong: the output, or lines that were not understood.
+fn judged(night: Night, lines: u64) {
+    if night.stuck {
+        report::stopped(b"standard output cannot be written", lines);
+        return;
+    }
+    report::misunderstood(night.tally, lines);
+}
+
+// Ends the night. A script that could not be read to its end has no totals.
+fn ended(playing: Playing, memory: &[u8], out: &mut [u8], taken: &[u8]) {
+    let night = playing.night;
+    let heard = playing.heard;
+    let reader = heard.reader;
+    if reader.failed {
+        written(night, out);
+        report::stopped(b"standard input cannot be read", heard.lines);
+        return;
+    }
+    if night.stuck {
+        judged(night, heard.lines);
+        return;
+    }
+    let own = of_bytes(RAM_SIZE, memory);
+    let last = finished(night, heard.lines, &memory[..own], out, taken);
+    judged(last, heard.lines);
 }
 
 // Plays the night on standard input, from a fresh bench.
@@ -171,5 +231,5 @@ pub fn play(plain: bool) {
         &mut out,
         &mut taken,
     );
-    finished(end.night, &mut out, &taken);
+    ended(end, &memory, &mut out, &taken);
 }

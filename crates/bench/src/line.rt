@@ -6,6 +6,7 @@ use crate::night::with_origin;
 use crate::object::bytes;
 use crate::plain;
 use crate::print::numbered;
+use crate::summary::unread;
 use crate::tell;
 use crate::tell::Poll;
 use crate::tell::Told;
@@ -23,9 +24,12 @@ use bench_words::bytes::MOST_BYTES;
 use bench_words::reading::Trouble;
 use bench_words::split::word;
 use can::OBJECTS;
+use can::State;
+use can::Verdict;
 use can_calls::answer::Answer;
 use can_calls::perform::Played;
 use can_calls::perform::perform;
+use can_calls::request::Function;
 use can_calls::request::Request;
 use can_calls::request::is_bus_off_poll;
 
@@ -38,15 +42,54 @@ fn origins_after(origins: [u64; OBJECTS], answer: Answer, line: u64) -> [u64; OB
     }
 }
 
-// An accepted write, or an arrival that is lost.
+// The object whose frame was sent, with the present line for it.
+fn sents_after(
+    sents: [u64; OBJECTS],
+    request: Request,
+    verdict: Verdict,
+    line: u64,
+) -> [u64; OBJECTS] {
+    let function = request.function;
+    match verdict {
+        Verdict::Accepted => match function {
+            Function::Sent => with_origin(sents, request.object, line),
+            _ => sents,
+        },
+        Verdict::Rejected(_) => sents,
+    }
+}
+
+// An accepted write, or what became of an arrival.
 fn tally_after(tally: Tally, answer: Answer) -> Tally {
     let mut next = tally;
     match answer {
         Answer::TakenBy(_) => {
             next.written = more(tally.written);
         }
+        Answer::Stored(_) => {
+            next.arrived = more(tally.arrived);
+        }
         Answer::Lost => {
+            next.arrived = more(tally.arrived);
             next.lost = more(tally.lost);
+        }
+        Answer::Unwanted => {
+            next.arrived = more(tally.arrived);
+            next.unwanted = more(tally.unwanted);
+        }
+        _ => {}
+    }
+    next
+}
+
+// The frames that a DeInit drops: all that nobody has read. One that is refused leaves the driver initialised.
+fn tally_dropped(tally: Tally, function: Function, before: State, initialised: bool) -> Tally {
+    let mut next = tally;
+    match function {
+        Function::DeInit => {
+            if !initialised {
+                next.dropped = std::num::wrapping_add_u64(tally.dropped, unread(before));
+            }
         }
         _ => {}
     }
@@ -66,14 +109,18 @@ fn in_words(
     let at = plain::call(out, night.at, night, wanted, played);
     let answer = played.answer;
     let before = night.tally;
-    let tally = tally_after(before, answer);
+    let state = night.state;
+    let next = played.state;
+    let request = wanted.request;
+    let function = request.function;
+    let counted = tally_dropped(before, function, state, next.initialised);
+    let tally = tally_after(counted, answer);
     let origins = night.origins;
     let start = Told {
         at: at,
         taken_at: night.taken_at,
         tally: tally,
     };
-    let request = wanted.request;
     let poll = Poll {
         line: night.line,
         by_bus_off: is_bus_off_poll(request),
@@ -159,15 +206,19 @@ fn told(
 }
 
 // The night after a call.
-fn after(night: Night, played: Played, told: Told) -> Night {
+fn after(night: Night, request: Request, played: Played, told: Told) -> Night {
     let state = played.state;
     let answer = played.answer;
+    let verdict = played.verdict;
     let before = night.origins;
     let origins = origins_after(before, answer, night.line);
+    let sent_before = night.sents;
+    let sents = sents_after(sent_before, request, verdict, night.line);
     let tally = told.tally;
     Night {
         state: state,
         origins: origins,
+        sents: sents,
         tally: tally,
         plain: night.plain,
         line: night.line,
@@ -175,6 +226,7 @@ fn after(night: Night, played: Played, told: Told) -> Night {
         memory: night.memory,
         at: told.at,
         taken_at: told.taken_at,
+        stuck: night.stuck,
     }
 }
 
@@ -189,7 +241,7 @@ fn answered(
     taken: &mut [u8],
 ) -> Night {
     let told = told(night, wanted, played, memory, sheet, out, taken);
-    after(night, played, told)
+    after(night, wanted.request, played, told)
 }
 
 // Plays a call and tells what came of it.
@@ -250,6 +302,16 @@ fn unreadable(night: Night, trouble: Trouble, line: &[u8], out: &mut [u8]) -> us
     put(out, end, b"\n")
 }
 
+// One more line that is not understood.
+fn misunderstood(tally: Tally, line: u64) -> Tally {
+    let mut next = tally;
+    next.unreadable = more(tally.unreadable);
+    if tally.unreadable == 0 {
+        next.first_unreadable = line;
+    }
+    next
+}
+
 // A command that is no call.
 fn other(night: Night, command: Command, line: &[u8], memory: &[u8], out: &mut [u8]) -> Night {
     let mut next = night;
@@ -272,9 +334,8 @@ fn other(night: Night, command: Command, line: &[u8], memory: &[u8], out: &mut [
             next.at = lent(night, b"memory of ", bytes, b" bytes from here on\n", out);
         }
         Command::Unreadable(trouble) => {
-            let mut tally = night.tally;
-            tally.unreadable = more(tally.unreadable);
-            next.tally = tally;
+            let tally = night.tally;
+            next.tally = misunderstood(tally, night.line);
             next.at = unreadable(night, trouble, line, out);
         }
         _ => {}
@@ -293,11 +354,9 @@ pub fn play(
     taken: &mut [u8],
 ) -> Night {
     let command = bench_script::command::read(line, bytes);
-    let mut next = night;
-    next.line = more(night.line);
     let asks = request_of(command);
     match asks {
-        Asks::Call(wanted) => call(next, wanted, bytes, memory, sheet, out, taken),
-        Asks::Other => other(next, command, line, memory, out),
+        Asks::Call(wanted) => call(night, wanted, bytes, memory, sheet, out, taken),
+        Asks::Other => other(night, command, line, memory, out),
     }
 }

@@ -4,6 +4,7 @@
 mod answer;
 mod asked;
 mod frames;
+mod heard;
 mod input;
 mod line;
 mod night;
@@ -12,12 +13,14 @@ mod object;
 mod plain;
 mod print;
 mod refused;
+mod report;
 mod state;
 mod style;
 mod summary;
 mod tell;
 mod terse;
 mod trouble;
+mod waiting;
 
 use libc::STDERR_FILENO;
 use style::Style;

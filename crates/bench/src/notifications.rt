@@ -8,6 +8,7 @@ use crate::night::origin;
 use crate::print::numbered;
 use crate::print::right;
 use bench_text::put::put;
+use bench_words::piece::piece;
 use can::OBJECTS;
 use core_layout::notification::WORDS;
 
@@ -139,33 +140,42 @@ fn off_bus(out: &mut [u8], at: usize, controller: u32) -> usize {
     put(out, end, b" went off the bus and is now STOPPED\n")
 }
 
-// AUTOSAR's name of a development error.
+// AUTOSAR's name of a development error, by its number.
 fn error_name(out: &mut [u8], at: usize, error: u32) -> usize {
-    match error {
-        2 => put(out, at, b" CAN_E_PARAM_HANDLE"),
-        3 => put(out, at, b" CAN_E_PARAM_DATA_LENGTH"),
-        4 => put(out, at, b" CAN_E_PARAM_CONTROLLER"),
-        5 => put(out, at, b" CAN_E_UNINIT"),
-        6 => put(out, at, b" CAN_E_TRANSITION"),
-        9 => put(out, at, b" CAN_E_INIT_FAILED"),
-        _ => at,
+    let texts = b"?|\
+        ?|\
+        CAN_E_PARAM_HANDLE|\
+        CAN_E_PARAM_DATA_LENGTH|\
+        CAN_E_PARAM_CONTROLLER|\
+        CAN_E_UNINIT|\
+        CAN_E_TRANSITION|\
+        ?|\
+        ?|\
+        CAN_E_INIT_FAILED";
+    put(out, at, piece(texts, error as usize))
+}
+
+// The place of a service in the table below.
+fn service_place(service: u32) -> usize {
+    match service {
+        0 => 0,
+        3 => 1,
+        6 => 2,
+        16 => 3,
+        18 => 4,
+        _ => 5,
     }
 }
 
 // AUTOSAR's name of a service.
 fn service_name(out: &mut [u8], at: usize, service: u32) -> usize {
-    match service {
-        0 => put(out, at, b"Init"),
-        3 => put(out, at, b"SetControllerMode"),
-        6 => put(out, at, b"Write"),
-        16 => put(out, at, b"DeInit"),
-        18 => put(out, at, b"GetControllerMode"),
-        _ => numbered(out, at, b"service ", service as u64),
-    }
+    let texts = b"Init|SetControllerMode|Write|DeInit|GetControllerMode|another service";
+    put(out, at, piece(texts, service_place(service)))
 }
 
 fn development_error(out: &mut [u8], at: usize, service: u32, error: u32) -> usize {
     let mut end = numbered(out, at, b"development error ", error as u64);
+    end = put(out, end, b" ");
     end = error_name(out, end, error);
     end = put(out, end, b" of ");
     end = service_name(out, end, service);

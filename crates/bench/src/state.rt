@@ -4,7 +4,9 @@ use crate::print::count_of;
 use crate::print::numbered;
 use crate::print::right;
 use bench_text::put::put;
+use bench_text::put::put_hexadecimal;
 use can::State;
+use can_state::settings::Settings;
 use core_places::controller::Controller;
 use core_places::mailbox::Mailbox;
 use core_places::owner::Owner;
@@ -50,29 +52,79 @@ fn controller(out: &mut [u8], at: usize, c: usize, k: Controller) -> usize {
     mark(out, end, k.bus_off)
 }
 
-// What an object holds.
-fn held(out: &mut [u8], at: usize, receiving: bool, m: Mailbox) -> usize {
-    if receiving {
-        if m.rx_full {
-            return put(out, at, b"receiving: full\n");
-        }
-        return put(out, at, b"receiving: empty\n");
-    }
+// The frame that a sending object holds.
+fn sending(out: &mut [u8], at: usize, m: Mailbox) -> usize {
     if m.tx_done {
-        return put(out, at, b"sending: sent, not yet confirmed\n");
+        return put(out, at, b": sent, not yet confirmed\n");
     }
     if m.tx_pending {
-        return put(out, at, b"sending: waits to be sent\n");
+        return put(out, at, b": waits to be sent\n");
     }
-    put(out, at, b"sending: free\n")
+    put(out, at, b": free\n")
 }
 
-fn object(out: &mut [u8], at: usize, h: usize, o: Owner, m: Mailbox) -> usize {
+fn receiving(out: &mut [u8], at: usize, m: Mailbox) -> usize {
+    if m.rx_full {
+        return put(out, at, b": full\n");
+    }
+    put(out, at, b": empty\n")
+}
+
+// A sending object: its padding value, and what it holds.
+fn sends(out: &mut [u8], at: usize, s: Settings, m: Mailbox) -> usize {
+    let mut end = put(out, at, b" padding ");
+    end = put_hexadecimal(out, end, s.padding as u64, 2);
+    sending(out, end, m)
+}
+
+// A receiving object: its filter, and what it holds.
+fn receives(out: &mut [u8], at: usize, s: Settings, m: Mailbox) -> usize {
+    let mut end = put(out, at, b" code ");
+    end = put_hexadecimal(out, end, s.code as u64, 3);
+    end = put(out, end, b" mask ");
+    end = put_hexadecimal(out, end, s.mask as u64, 3);
+    receiving(out, end, m)
+}
+
+// Whose it is, and how much it takes.
+fn configured(out: &mut [u8], at: usize, kind: &[u8], controller: u8, payload: u8) -> usize {
+    let mut end = put(out, at, kind);
+    end = numbered(out, end, b" controller ", controller as u64);
+    numbered(out, end, b" payload ", payload as u64)
+}
+
+fn object(out: &mut [u8], at: usize, h: usize, o: Owner, m: Mailbox, s: Settings) -> usize {
     let mut end = put(out, at, b"          object     ");
     end = right(out, end, h as u64, 2);
-    end = numbered(out, end, b"  of controller ", o.controller as u64);
-    end = put(out, end, b", ");
-    held(out, end, o.receiving, m)
+    if o.receiving {
+        end = configured(out, end, b"  receive", o.controller, s.payload);
+        return receives(out, end, s, m);
+    }
+    end = configured(out, end, b"  send", o.controller, s.payload);
+    sends(out, end, s, m)
+}
+
+// The object at a place, with its settings and what it holds.
+fn place(out: &mut [u8], at: usize, state: State, h: usize) -> usize {
+    if can::OBJECTS <= h {
+        return at;
+    }
+    let o = Owner {
+        controller: state.owners[h],
+        receiving: state.receivings[h],
+    };
+    let m = Mailbox {
+        tx_pending: state.pendings[h],
+        tx_done: state.dones[h],
+        rx_full: state.fulls[h],
+    };
+    let s = Settings {
+        payload: state.payloads[h],
+        padding: state.paddings[h],
+        code: state.codes[h],
+        mask: state.masks[h],
+    };
+    object(out, at, h, o, m, s)
 }
 
 // Each configured controller.
@@ -95,16 +147,7 @@ pub fn objects(out: &mut [u8], at: usize, state: State) -> usize {
     let count = limited(state.object_count, can::OBJECTS);
     let mut end = at;
     for h in 0..count {
-        let o = Owner {
-            controller: state.owners[h],
-            receiving: state.receivings[h],
-        };
-        let m = Mailbox {
-            tx_pending: state.pendings[h],
-            tx_done: state.dones[h],
-            rx_full: state.fulls[h],
-        };
-        end = object(out, end, h, o, m);
+        end = place(out, end, state, h);
     }
     end
 }

@@ -3,15 +3,28 @@ use crate::night::Tally;
 use crate::print::numbered;
 use crate::print::right;
 use bench_text::put::put;
+use can::OBJECTS;
 use can::State;
 
-// How many frames wait to be sent or confirmed.
-fn waiting(state: State) -> u64 {
+// How many objects have a flag.
+fn flagged(flags: [bool; OBJECTS]) -> u64 {
     let mut count: u64 = 0;
-    for h in 0..can::OBJECTS {
-        count = std::num::wrapping_add_u64(count, state.pendings[h] as u64);
+    for h in 0..OBJECTS {
+        count = std::num::wrapping_add_u64(count, flags[h] as u64);
     }
     count
+}
+
+// How many frames wait to be sent or confirmed.
+pub fn waiting(state: State) -> u64 {
+    let flags = state.pendings;
+    flagged(flags)
+}
+
+// How many received frames nobody has read.
+pub fn unread(state: State) -> u64 {
+    let flags = state.fulls;
+    flagged(flags)
 }
 
 fn counted(out: &mut [u8], at: usize, word: &[u8], n: u64) -> usize {
@@ -29,12 +42,21 @@ fn sent(out: &mut [u8], at: usize, tally: Tally, state: State) -> usize {
     counted(out, end, b"  still waiting        ", waiting(state))
 }
 
+// What became of the frames that arrived.
+fn received(out: &mut [u8], at: usize, tally: Tally, state: State) -> usize {
+    let mut end = counted(out, at, b"  frames arrived       ", tally.arrived);
+    end = counted(out, end, b"  read                 ", tally.received);
+    end = counted(out, end, b"  still unread         ", unread(state));
+    end = counted(out, end, b"  dropped by DeInit    ", tally.dropped);
+    end = counted(out, end, b"  lost                 ", tally.lost);
+    counted(out, end, b"  unwanted             ", tally.unwanted)
+}
+
 // The totals of a night.
 pub fn totals(out: &mut [u8], at: usize, tally: Tally, state: State) -> usize {
     let mut end = put(out, at, b"\nAt the end of the night\n");
     end = sent(out, end, tally, state);
-    end = counted(out, end, b"  frames received      ", tally.received);
-    end = counted(out, end, b"  arrivals lost        ", tally.lost);
+    end = received(out, end, tally, state);
     counted(out, end, b"  lines not understood ", tally.unreadable)
 }
 

@@ -13,7 +13,7 @@ use core_places::controller::Controller;
 use core_places::mailbox::Mailbox;
 use core_places::range::limited;
 
-// The name of a call.
+// The name of a call. Not a table of texts, which would be searched for every line of a night.
 fn name(out: &mut [u8], at: usize, function: Function) -> usize {
     match function {
         Function::Init => put(out, at, b" init "),

@@ -1,71 +1,120 @@
 // Lines that can't be read.
 use bench_script::name::Name;
 use bench_text::put::put;
+use bench_words::piece::piece;
 use bench_words::reading::Trouble;
+
+// The place of a trouble in the tables below.
+fn place(trouble: Trouble) -> usize {
+    match trouble {
+        Trouble::LineTooLong => 0,
+        Trouble::UnknownCommand => 1,
+        Trouble::WordMissing => 2,
+        Trouble::WordTooMany => 3,
+        Trouble::NotANumber => 4,
+        Trouble::NumberTooLarge => 5,
+        Trouble::NotAnIdentifier => 6,
+        Trouble::IdentifierTooLong => 7,
+        Trouble::NotHexDigits => 8,
+        Trouble::OddDigits => 9,
+        Trouble::NotAMode => 10,
+        Trouble::UnknownPoll => 11,
+        Trouble::HandleTooLarge => 12,
+        Trouble::SheetTooLong => 13,
+        Trouble::MemoryTooLong => 14,
+    }
+}
 
 // What is wrong with a line.
 pub fn message(out: &mut [u8], at: usize, trouble: Trouble) -> usize {
-    match trouble {
-        Trouble::LineTooLong => put(out, at, b"line too long"),
-        Trouble::UnknownCommand => put(out, at, b"unknown command"),
-        Trouble::WordMissing => put(out, at, b"a word is missing"),
-        Trouble::WordTooMany => put(out, at, b"a word too many"),
-        Trouble::NotANumber => put(out, at, b"not a number"),
-        Trouble::NumberTooLarge => put(out, at, b"number too large"),
-        Trouble::NotAnIdentifier => put(out, at, b"not an identifier"),
-        Trouble::IdentifierTooLong => put(out, at, b"identifier too long"),
-        Trouble::NotHexDigits => put(out, at, b"not hex digits"),
-        Trouble::OddDigits => put(out, at, b"odd number of digits"),
-        Trouble::NotAMode => put(out, at, b"not a mode"),
-        Trouble::UnknownPoll => put(out, at, b"unknown poll"),
-        Trouble::HandleTooLarge => put(out, at, b"handle too large"),
-        Trouble::SheetTooLong => put(out, at, b"sheet too long"),
-        Trouble::MemoryTooLong => put(out, at, b"memory too long"),
+    let texts = b"line too long|\
+        unknown command|\
+        a word is missing|\
+        a word too many|\
+        not a number|\
+        number too large|\
+        not an identifier|\
+        identifier too long|\
+        not hex digits|\
+        odd number of digits|\
+        not a mode|\
+        unknown poll|\
+        handle too large|\
+        sheet too long|\
+        memory too long";
+    put(out, at, piece(texts, place(trouble)))
+}
+
+// The place of a command in the table below.
+fn place_of(name: Name) -> usize {
+    match name {
+        Name::Init => 0,
+        Name::DeInit => 1,
+        Name::Set => 2,
+        Name::Get => 3,
+        Name::Write => 4,
+        Name::Poll => 5,
+        Name::Sent => 6,
+        Name::BusOff => 7,
+        Name::Arrived => 8,
+        Name::Data => 9,
+        Name::Sheet => 10,
+        Name::Memory => 11,
+        Name::Show => 12,
+        Name::State => 13,
+        Name::Unknown => 14,
     }
 }
 
 // The words of a command.
 fn usage(out: &mut [u8], at: usize, name: Name) -> usize {
-    match name {
-        Name::Init => put(out, at, b"init BYTES"),
-        Name::DeInit => put(out, at, b"deinit"),
-        Name::Set => put(out, at, b"set CONTROLLER MODE"),
-        Name::Get => put(out, at, b"get CONTROLLER"),
-        Name::Write => put(out, at, b"write OBJECT HANDLE ID BYTES"),
-        Name::Poll => put(out, at, b"poll write, poll read, poll mode or poll busoff"),
-        Name::Sent => put(out, at, b"sent OBJECT"),
-        Name::BusOff => put(out, at, b"busoff CONTROLLER"),
-        Name::Arrived => put(out, at, b"arrived CONTROLLER ID BYTES"),
-        Name::Data => put(out, at, b"data OBJECT"),
-        Name::Sheet => put(out, at, b"sheet WORDS"),
-        Name::Memory => put(out, at, b"memory BYTES"),
-        Name::Show => put(out, at, b"show OBJECT"),
-        Name::State => put(out, at, b"state"),
-        Name::Unknown => put(
-            out,
-            at,
-            b"init, deinit, set, get, write, poll, sent, busoff, arrived, data, sheet, memory, show or state",
-        ),
-    }
+    let texts = b"init BYTES|\
+        deinit|\
+        set CONTROLLER MODE|\
+        get CONTROLLER|\
+        write OBJECT HANDLE ID BYTES|\
+        poll write, poll read, poll mode or poll busoff|\
+        sent OBJECT|\
+        busoff CONTROLLER|\
+        arrived CONTROLLER ID BYTES|\
+        data OBJECT|\
+        sheet WORDS|\
+        memory BYTES|\
+        show OBJECT|\
+        state|\
+        init, deinit, set, get, write, poll, sent, busoff, arrived, data, sheet, memory, show or state";
+    put(out, at, piece(texts, place_of(name)))
+}
+
+// What was expected instead of a word. The troubles with a whole command have none.
+fn expected_word(out: &mut [u8], at: usize, trouble: Trouble) -> usize {
+    let texts = b"at most 8192 bytes|\
+        |\
+        |\
+        |\
+        decimal digits, or 0x and hex digits|\
+        at most 4294967295|\
+        hex digits, with or without 0x|\
+        at most 8 hex digits|\
+        hex digits in pairs, or - for none|\
+        two hex digits for each byte|\
+        STARTED, STOPPED, SLEEP or a number|\
+        |\
+        at most 65535|\
+        at most 4096 words|\
+        at most 16384 bytes";
+    put(out, at, piece(texts, place(trouble)))
 }
 
 // What was expected instead.
 pub fn expected(out: &mut [u8], at: usize, trouble: Trouble, name: Name) -> usize {
     match trouble {
-        Trouble::LineTooLong => put(out, at, b"at most 8192 bytes"),
-        Trouble::UnknownCommand => usage(out, at, name),
-        Trouble::WordMissing => usage(out, at, name),
-        Trouble::WordTooMany => usage(out, at, name),
-        Trouble::NotANumber => put(out, at, b"decimal digits, or 0x and hex digits"),
-        Trouble::NumberTooLarge => put(out, at, b"at most 4294967295"),
-        Trouble::NotAnIdentifier => put(out, at, b"hex digits, with or without 0x"),
-        Trouble::IdentifierTooLong => put(out, at, b"at most 8 hex digits"),
-        Trouble::NotHexDigits => put(out, at, b"hex digits in pairs, or - for none"),
-        Trouble::OddDigits => put(out, at, b"two hex digits for each byte"),
-        Trouble::NotAMode => put(out, at, b"STARTED, STOPPED, SLEEP or a number"),
+        Trouble::UnknownCommand | Trouble::WordMissing | Trouble::WordTooMany => usage(
+            out,
+            at,
+            name,
+        ),
         Trouble::UnknownPoll => usage(out, at, Name::Poll),
-        Trouble::HandleTooLarge => put(out, at, b"at most 65535"),
-        Trouble::SheetTooLong => put(out, at, b"at most 4096 words"),
-        Trouble::MemoryTooLong => put(out, at, b"at most 16384 bytes"),
+        _ => expected_word(out, at, trouble),
     }
 }

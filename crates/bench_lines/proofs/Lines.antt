@@ -63,12 +63,12 @@ module _ (taken : ℕ) (piece : List ℕ) (end : ℕ) (found : end ≡ taken + i
     part-kept = rw (sym part-is) put
 
     pub with-its-end : {r : ℕ} → end < length piece → r ≡ line-length after read
-        → Stretched taken count piece before after (record { taken = end + 1; filled = length piece; count = r; whole = true; ended = false })
+        → Stretched taken count piece before after (record { taken = end + 1; filled = length piece; count = r; whole = true; ended = false; failed = false })
     with-its-end h e =
         let ends : line-ends rest ≡ true = lt-ltb (indexOf LF rest) (length rest) (omega (arith, index, length-drop taken piece)) in
         record { read = read; part-kept = part-kept; reader-is = rw (ends, part-end, e) }
 
-    pub without-its-end : length piece ≤ end → Stretched taken count piece before after (record { taken = length piece; filled = length piece; count = read; whole = false; ended = false })
+    pub without-its-end : length piece ≤ end → Stretched taken count piece before after (record { taken = length piece; filled = length piece; count = read; whole = false; ended = false; failed = false })
     without-its-end h =
         let ends : line-ends rest ≡ false = le-ltb (indexOf LF rest) (length rest) (omega (arith, index, length-drop taken piece)) in
         record { read = read; part-kept = part-kept; reader-is = rw ends }

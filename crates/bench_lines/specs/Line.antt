@@ -1,7 +1,7 @@
 -- Lines of the input. docs/BENCH.md: a line ends with LF or CR LF, and the last one may end without.
 use Prim.Native.Nat.{ℕ, _+_, _-_, _≤_, _<_, min}
 use mathlib.Core.Path.{_≡_}
-use mathlib.Core.Bool.{Bool, true, false, cond, _&&_}
+use mathlib.Core.Bool.{Bool, true, false, not, cond, _&&_}
 use mathlib.Core.List.{List}
 use lib.ListN.{length, getD, take, drop}
 use lib.Dec.{eqb, ltb, leb}
@@ -48,18 +48,21 @@ pub record Stretched (taken count : ℕ) (piece before after : List ℕ) (r : Re
   pub reader-is :
       r
       ≡ cond (line-ends (drop taken piece))
-      (record { taken = taken + length (line-part (drop taken piece)) + 1; filled = length piece; count = line-length after read; whole = true; ended = false })
-      (record { taken = length piece; filled = length piece; count = read; whole = false; ended = false })
+      (record { taken = taken + length (line-part (drop taken piece)) + 1; filled = length piece; count = line-length after read; whole = true; ended = false; failed = false })
+      (record { taken = length piece; filled = length piece; count = read; whole = false; ended = false; failed = false })
 
 -- A new piece of at most so many bytes: what standard input has is not known, so neither is how much was read. Nothing read means that the
--- input has ended, and what is read of a line is then the whole of it: the last one may end without an LF.
+-- input has ended, and what is read of a line is then the whole of it: the last one may end without an LF. A read that fails reads nothing,
+-- and a line that it cuts off is not whole.
 pub record Refilled (count size : ℕ) (r : Reader) : Type 0 where
   pub within : r .filled ≤ size
-  pub reader-is : r ≡ record { taken = 0; filled = r .filled; count = count; whole = eqb (r .filled) 0 && ltb 0 count; ended = eqb (r .filled) 0 }
+  pub failed-empty : r .failed ≡ true → r .filled ≡ 0
+  pub reader-is :
+      r ≡ record { taken = 0; filled = r .filled; count = count; whole = eqb (r .filled) 0 && ltb 0 count && not (r .failed); ended = eqb (r .filled) 0; failed = r .failed }
 
 -- nothing is read yet
 abbrev pub nothing-read : Reader
-nothing-read = record { taken = 0; filled = 0; count = 0; whole = false; ended = false }
+nothing-read = record { taken = 0; filled = 0; count = 0; whole = false; ended = false; failed = false }
 
 -- how many bytes are read of the present line: a new one begins where the last one was whole
 abbrev pub line-count : Reader → ℕ

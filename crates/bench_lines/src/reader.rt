@@ -3,20 +3,22 @@
 ghost use mathlib.Core.Path.{_≡_};
 ghost use Prim.Native.Nat.{_<_};
 ghost use lib.ListN.{length};
-ghost use Rattle.bench_lines.specs.Line.{Kept, line-length, Stretched, Refilled, nothing-read, line-count, Advanced};
+ghost use lib.Dec.{leb};
+ghost use Rattle.bench_lines.specs.Line.{Kept, line-length, Stretched, Refilled, nothing-read, line-count, piece-size, Advanced};
 use crate::count::of_bytes;
 use bench_text::put::put;
 use bytes::scan::find;
 use libc::STDIN_FILENO;
 
-// How many bytes of the piece are taken and how many it has; how many bytes of a line are read, and whether it is whole; and whether the
-// input has ended.
+// How many bytes of the piece are taken and how many it has; how many bytes of a line are read, and whether it is whole; whether the input
+// has ended, and whether that is because it could not be read.
 pub struct Reader {
     pub taken: usize,
     pub filled: usize,
     pub count: usize,
     pub whole: bool,
     pub ended: bool,
+    pub failed: bool,
 }
 
 // The count of a line that has no room.
@@ -32,6 +34,7 @@ pub fn begun() -> Reader
         count: 0,
         whole: false,
         ended: false,
+        failed: false,
     }
 }
 
@@ -65,19 +68,21 @@ fn without_cr(line: &[u8], count: usize) -> usize
 }
 
 // Reads the next piece. Where there is none the input has ended, and what is read of a line is the whole of it: the last one may end
-// without an LF.
+// without an LF. Where the read fails nobody knows how the line goes on.
 fn refilled(count: usize, input: &mut [u8]) -> Reader
     ensures { λ r. ⌜ Refilled count (length (now (input .entry))) r ⌝ }
 {
     let got = libc::read(STDIN_FILENO, input);
     let filled = io::count(got, input);
     let ended = filled == 0;
+    let failed = ended & (got < 0);
     Reader {
         taken: 0,
         filled: filled,
         count: count,
-        whole: ended & (0 < count),
+        whole: ended & (0 < count) & !failed,
         ended: ended,
+        failed: failed,
     }
 }
 
@@ -96,6 +101,7 @@ fn stretch(taken: usize, piece: &[u8], count: usize, line: &mut [u8]) -> Reader
             count: without_cr(line, read),
             whole: true,
             ended: false,
+            failed: false,
         };
     }
     Reader {
@@ -104,6 +110,7 @@ fn stretch(taken: usize, piece: &[u8], count: usize, line: &mut [u8]) -> Reader
         count: read,
         whole: false,
         ended: false,
+        failed: false,
     }
 }
 
@@ -112,6 +119,14 @@ fn line_count(reader: Reader) -> usize
     ensures { λ r. ⌜ r ≡ line-count reader ⌝ }
 {
     if reader.whole { 0 } else { reader.count }
+}
+
+// Whether the next step reads a piece, for which it may have to wait.
+pub fn will_read(reader: Reader, input: &[u8]) -> bool
+    ensures { λ r. ⌜ r ≡ leb (piece-size reader (now (input .entry))) (reader .taken) ⌝ }
+{
+    let filled = of_bytes(reader.filled, input);
+    filled <= reader.taken
 }
 
 // One step on: within the piece where something of it is left, else the next piece is read.

@@ -2,15 +2,21 @@
 -- `told` the arm that its match took: a value, or the trouble with the word.
 use Prim.Native.Nat.{ℕ}
 use mathlib.Core.Path.{_≡_, refl, sym, ap, _∙_}
+use mathlib.Core.Bool.{true}
 use mathlib.Core.List.{List, []}
+use lib.ListN.{length}
+use lib.Dec.{leb}
+use borrow.Author.Tests.{leb-true, le-ltb}
 use Rattle.rules.specs.Bytes.{splice}
 use Rattle.laws.proofs.Splices.{splice-nil}
+use Rattle.laws.proofs.Tests.{left, right}
 use Rattle.bench_words.specs.Split.{word}
-use Rattle.bench_words.specs.Reading.{byte-count-of, hex-pairs, bytes-brought, BytesRead}
+use Rattle.bench_words.specs.Reading.{byte-count-of, hex-pairs, bytes-brought, BytesRead, longest-line}
 use Rattle.bench_words.specs.declared.reading.Reading.{Reading}
 use Rattle.bench_words.specs.declared.reading.Reading.the-variants.{Value, Unreadable}
-use Rattle.bench_script.specs.Command.{with-value, brought, CommandRead}
+use Rattle.bench_script.specs.Command.{with-value, is-missing, says-nothing, command-of, brought, CommandRead}
 use Rattle.bench_script.specs.declared.command.Command.{Command}
+use Rattle.bench_script.specs.declared.command.Command.the-variants.{Blank}
 
 -- the command that an arm makes
 pub made : (make : ℕ → Command) {reading said told : Reading} → reading ≡ said → reading ≡ told → with-value told make ≡ with-value said make
@@ -46,3 +52,10 @@ pub quiet : (said : Reading) (make : ℕ → Command) (line : List ℕ) → ((n 
 unfolding brought
 quiet (Value n) make line none = none n
 quiet (Unreadable t) make line none = refl
+
+-- a line that says nothing is read as a blank one
+pub nothing-is-blank : (line : List ℕ) → says-nothing line ≡ true → command-of line ≡ Blank
+unfolding command-of
+nothing-is-blank line e =
+    let short = leb-true (length line) longest-line (left (leb (length line) longest-line) (is-missing 0 line) e) in
+    rw (le-ltb longest-line (length line) short, right (leb (length line) longest-line) (is-missing 0 line) e)

@@ -1,10 +1,10 @@
 -- What each command's words must be, read from left to right; the first trouble counts.
 use Prim.Native.Nat.{ℕ, _+_}
 use mathlib.Core.Path.{_≡_}
-use mathlib.Core.Bool.{Bool, not, cond}
+use mathlib.Core.Bool.{Bool, not, cond, _&&_}
 use mathlib.Core.List.{List, [], _∷_}
 use lib.ListN.{length}
-use lib.Dec.{eqb, ltb}
+use lib.Dec.{eqb, ltb, leb}
 use Rattle.rules.specs.Bytes.{same-bytes, splice}
 use Rattle.bench_words.specs.Split.{word}
 use Rattle.bench_words.specs.Reading.{number-of, limited-to, mode-of, identifier-of, byte-count-of, hex-pairs, longest-line, largest-handle, largest-sheet, largest-memory}
@@ -120,6 +120,10 @@ unfoldable pub command-of : List ℕ → Command
 command-of line =
     cond (ltb longest-line (length line)) (Unreadable LineTooLong)
     (cond (is-missing 0 line) Blank (counted (name-of (word 0 line)) line))
+
+-- a line that is blank, or a comment alone
+abbrev pub says-nothing : List ℕ → Bool
+says-nothing line = leb (length line) longest-line && is-missing 0 line
 
 -- the bytes that a line brings
 unfoldable pub brought : Command → List ℕ → List ℕ

@@ -317,6 +317,14 @@ fn counted(name: Name, line: &[u8], out: &mut [u8; MOST_BYTES]) -> Command
     named(name, line, out)
 }
 
+// Whether a line says nothing: it is blank, or a comment alone.
+pub fn says_nothing(line: &[u8]) -> bool
+    ensures { λ r. ⌜ r ≡ commands.says-nothing (now (line .entry)) ⌝ }
+{
+    let first = word(line, 0);
+    (line.len() <= LONGEST_LINE) & (first.len() == 0)
+}
+
 // Reads a line, which has no line end any more. The bytes that it brings are put at the start of out.
 pub fn read(line: &[u8], out: &mut [u8; MOST_BYTES]) -> Command
     ensures { λ r. ⌜ commands.CommandRead (commands.command-of (now (line .entry))) (now (line .entry)) (now (out .entry)) (now (out .exit)) r ⌝ }

@@ -6,6 +6,8 @@ use lib.ListN.{drop}
 use lib.Dec.{eqb}
 use Rattle.rules.specs.Bytes.{part}
 use Rattle.bench_words.specs.declared.split.Span.{Span}
+use Rattle.bench_words.specs.declared.split.Run.{Run}
+use Rattle.bench_words.specs.declared.split.Run.the-variants.{Blanks, Word, Text}
 
 -- a space or a tab
 abbrev pub is-blank : ℕ → Bool
@@ -14,6 +16,16 @@ is-blank b = eqb b 32 || eqb b 9
 -- any other byte, but for #, with which a comment begins
 abbrev pub in-word : ℕ → Bool
 in-word b = not (is-blank b) && not (eqb b 35)
+
+-- any byte but a bar, which ends one of several texts in a row
+abbrev pub in-text : ℕ → Bool
+in-text b = not (eqb b 124)
+
+-- the bytes that belong to a run
+abbrev pub in-run : Run → ℕ → Bool
+in-run Blanks b = is-blank b
+in-run Word b = in-word b
+in-run Text b = in-text b
 
 -- how many bytes at the start pass the test
 unfoldable pub leading : (ℕ → Bool) → List ℕ → ℕ

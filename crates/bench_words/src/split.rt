@@ -3,12 +3,19 @@ ghost use mathlib.Core.Path.{_≡_};
 ghost use Prim.Native.Nat.{_+_, _-_};
 ghost use lib.ListN.{drop};
 ghost use Rattle.rules.specs.Bytes.{part, same-bytes};
-ghost use Rattle.bench_words.specs.Split.{is-blank, in-word, leading, next-word, word-at, word};
+ghost use Rattle.bench_words.specs.Split.{is-blank, in-run, leading, next-word, word-at, word};
 
 // Where a word stands: from start up to, not including, end. An empty one says that there is no further word.
 pub struct Span {
     pub start: usize,
     pub end: usize,
+}
+
+// Bytes that belong together: blanks, those of a word, and those of one of several texts in a row.
+pub enum Run {
+    Blanks,
+    Word,
+    Text,
 }
 
 // Spaces and tabs separate words.
@@ -18,35 +25,25 @@ fn is_blank(b: u8) -> bool
     (b == b' ') | (b == b'\t')
 }
 
-// A comment ends a word, as a blank does.
-fn in_word(b: u8) -> bool
-    ensures { λ r. ⌜ r ≡ in-word b ⌝ }
+// A comment ends a word, as a blank does; a bar ends a text.
+fn belongs(run: Run, b: u8) -> bool
+    ensures { λ r. ⌜ r ≡ in-run run b ⌝ }
 {
     let blank = is_blank(b);
-    !blank & (b != b'#')
-}
-
-// The position after the blanks at a position.
-fn skip_blanks(line: &[u8], at: usize) -> usize
-    ensures { λ r. ⌜ r ≡ at + leading is-blank (drop at (now (line .entry))) ⌝ }
-{
-    let mut i = at;
-    while i < line.len() {
-        if !is_blank(line[i]) {
-            return i;
-        }
-        i += 1;
+    match run {
+        Run::Blanks => blank,
+        Run::Word => !blank & (b != b'#'),
+        Run::Text => b != b'|',
     }
-    i
 }
 
-// The position after the word at a position.
-fn skip_word(line: &[u8], at: usize) -> usize
-    ensures { λ r. ⌜ r ≡ at + leading in-word (drop at (now (line .entry))) ⌝ }
+// The position after the run at a position.
+pub fn skip(line: &[u8], at: usize, run: Run) -> usize
+    ensures { λ r. ⌜ r ≡ at + leading (in-run run) (drop at (now (line .entry))) ⌝ }
 {
     let mut i = at;
     while i < line.len() {
-        if !in_word(line[i]) {
+        if !belongs(run, line[i]) {
             return i;
         }
         i += 1;
@@ -58,8 +55,8 @@ fn skip_word(line: &[u8], at: usize) -> usize
 fn next_word(line: &[u8], at: usize) -> Span
     ensures { λ r. ⌜ r ≡ next-word (now (line .entry)) at ⌝ }
 {
-    let start = skip_blanks(line, at);
-    let end = skip_word(line, start);
+    let start = skip(line, at, Run::Blanks);
+    let end = skip(line, start, Run::Word);
     Span { start, end }
 }
 
@@ -75,7 +72,7 @@ fn word_at(line: &[u8], n: usize) -> Span
 }
 
 // The bytes from start up to, not including, end, as far as the line has them.
-fn between(line: &[u8], start: usize, end: usize) -> &[u8]
+pub fn between(line: &[u8], start: usize, end: usize) -> &[u8]
     ensures { λ r. ⌜ now r ≡ part start (end - start) (now (line .entry)) ⌝ }
 {
     let stop = if end < line.len() { end } else { line.len() };

@@ -72,7 +72,8 @@ impl Bench {
             2 => drop(state.set_mode(place, value, sheet)),
             3 => drop(state.get_mode(place, sheet)),
             4 => {
-                drop(state.write(place, events.handles[i], Identifier(value), bytes, sheet, memory))
+                let _ =
+                    state.write(place, events.handles[i], Identifier(value), bytes, sheet, memory);
             }
             5 => drop(state.poll_write(sheet, memory)),
             6 => drop(state.poll_read(sheet, memory)),

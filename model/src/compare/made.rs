@@ -31,6 +31,7 @@ pub fn make_nights(settings: &Settings, sender: &SyncSender<Made>) {
 /// What the model prints for a script.
 pub fn model(script: &[u8]) -> Vec<u8> {
     let mut output = Vec::new();
-    night::play(script, &mut output).expect("reading and writing memory does not fail");
+    let night = night::play(script, &mut output).expect("reading and writing memory does not fail");
+    output.extend_from_slice(night.complaint().as_bytes());
     output
 }

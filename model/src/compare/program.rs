@@ -13,14 +13,14 @@ pub struct Program<'a> {
 }
 
 impl Program<'_> {
-    /// What the program prints, or why there is nothing to
-    /// compare. Its standard error is left as it is, for its last words.
+    /// What the program prints, and behind that what it says on standard error; or why there is nothing to compare.
     pub fn play(&self, script: &[u8]) -> Result<Vec<u8>, String> {
         let path = self.path;
         let mut child = Command::new(path)
             .args(self.arguments)
             .stdin(Stdio::piped())
             .stdout(Stdio::piped())
+            .stderr(Stdio::piped())
             .spawn()
             .map_err(|error| format!("{path} cannot be started ({error})"))?;
         let input = child.stdin.take();
@@ -31,9 +31,10 @@ impl Program<'_> {
         });
         let output = output.map_err(|error| format!("{path} cannot be read ({error})"))?;
         if !output.status.success() {
-            return Err(format!("{path} died ({})", output.status));
+            let words = String::from_utf8_lossy(&output.stderr);
+            return Err(format!("{path} died ({}) {words}", output.status).trim_end().to_string());
         }
-        Ok(output.stdout)
+        Ok([output.stdout, output.stderr].concat())
     }
 }
 

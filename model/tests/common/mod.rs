@@ -9,12 +9,13 @@ pub const K: &str = "init 4348420001010200\
 /// P5's write.
 pub const P5: &str = "write 0 7 40000123 010203040506070809";
 
-/// Plays a script from a fresh bench and gives the answers without line numbers.
+/// Plays a script from a fresh bench and gives the answers without line numbers, and without the last line, which tells of the end.
 pub fn play(script: &str) -> Vec<String> {
-    play_bytes(script.as_bytes())
-        .lines()
-        .map(|line| line.split_once(' ').expect("a line number").1.to_string())
-        .collect()
+    let output = play_bytes(script.as_bytes());
+    let mut lines: Vec<&str> = output.lines().collect();
+    let end = lines.pop().expect("an end");
+    assert!(end.starts_with("end "), "{end}");
+    lines.iter().map(|line| line.split_once(' ').expect("a line number").1.to_string()).collect()
 }
 
 /// Plays a script and gives the output as it is.

@@ -19,6 +19,9 @@ loop-holds c = search needs
 step-requires : tie.Need-step-requires Inv-loop μ-loop
 step-requires c κs = search needs
 
+is-over-requires : tie.Need-is-over-requires Inv-loop μ-loop
+is-over-requires c κs = search needs
+
 sub-steps : tie.Need-sub-steps Inv-loop μ-loop
 sub-steps c = search needs
 
@@ -63,6 +66,7 @@ all-spec =
     μ-loop
     loop-holds
     step-requires
+    is-over-requires
     sub-steps
     loop-less
     loop-again

@@ -18,23 +18,8 @@ limited-requires c κs = search needs
 loop-holds : tie.Need-loop-holds Inv-loop μ-loop
 loop-holds c = search needs
 
-element-copy-out-t14 : tie.Need-element-copy-out-t14 Inv-loop μ-loop
-element-copy-out-t14 c = search needs
-
-element-copy-out-t11 : tie.Need-element-copy-out-t11 Inv-loop μ-loop
-element-copy-out-t11 c = search needs
-
-element-copy-out-t11-2 : tie.Need-element-copy-out-t11-2 Inv-loop μ-loop
-element-copy-out-t11-2 c = search needs
-
-element-copy-out-t21 : tie.Need-element-copy-out-t21 Inv-loop μ-loop
-element-copy-out-t21 c = search needs
-
-element-copy-out-t24 : tie.Need-element-copy-out-t24 Inv-loop μ-loop
-element-copy-out-t24 c = search needs
-
-object-requires : tie.Need-object-requires Inv-loop μ-loop
-object-requires c κs = search needs
+place-requires : tie.Need-place-requires Inv-loop μ-loop
+place-requires c κs = search needs
 
 add-h : tie.Need-add-h Inv-loop μ-loop
 add-h c = search needs
@@ -59,12 +44,7 @@ objects-spec =
     μ-loop
     limited-requires
     loop-holds
-    element-copy-out-t14
-    element-copy-out-t11
-    element-copy-out-t11-2
-    element-copy-out-t21
-    element-copy-out-t24
-    object-requires
+    place-requires
     add-h
     loop-less
     loop-again

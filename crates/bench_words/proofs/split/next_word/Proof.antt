@@ -3,14 +3,14 @@ use borrow.Author.Needs.{needs}
 use Rattle.bench_words.proofs.split.next_word.Statement.{statement}
 use Rattle.bench_words.proofs.split.next_word.Tie as tie
 
-skip-blanks-requires : tie.Need-skip-blanks-requires
-skip-blanks-requires c κs = search needs
+skip-requires : tie.Need-skip-requires
+skip-requires c κs = search needs
 
-skip-word-requires : tie.Need-skip-word-requires
-skip-word-requires c κs = search needs
+skip-requires-2 : tie.Need-skip-requires-2
+skip-requires-2 c κs = search needs
 
 returns : tie.Need-returns
-returns c = rw (c .skip-word .ensures, c .before .skip-blanks .ensures)
+returns c = rw (c .skip2 .ensures, c .before .skip .ensures)
 
 pub next-word-spec : {M : Type 1} → statement M
-next-word-spec = tie.close (tie.spec skip-blanks-requires skip-word-requires returns)
+next-word-spec = tie.close (tie.spec skip-requires skip-requires-2 returns)

@@ -1,21 +1,21 @@
--- `bench::summary::waiting` meets its contract: it is safe and ends.
+-- `bench::summary::flagged` meets its contract: it is safe and ends.
 use borrow.Author.Needs.{needs}
 use Prim.Native.Nat.{_≤_, _-_}
 use Rattle.rules.specs.Chip.{chip}
-use Rattle.bench.proofs.summary.waiting.Statement.{statement}
-use Rattle.bench.proofs.summary.waiting.Tie as tie
+use Rattle.bench.proofs.summary.flagged.Statement.{statement}
+use Rattle.bench.proofs.summary.flagged.Tie as tie
 
 abbrev Inv-loop : tie.InvT-loop
-Inv-loop state count₀ h₀ count h = h ≤ chip .objects
+Inv-loop flags count₀ h₀ count h = h ≤ chip .objects
 
 abbrev μ-loop : tie.MeasureT-loop
-μ-loop state count₀ h₀ count h = chip .objects - h
+μ-loop flags count₀ h₀ count h = chip .objects - h
 
 loop-holds : tie.Need-loop-holds Inv-loop μ-loop
 loop-holds c = search needs
 
-element-copy-out-wrapping-add-u64 : tie.Need-element-copy-out-wrapping-add-u64 Inv-loop μ-loop
-element-copy-out-wrapping-add-u64 c = search needs
+array-read-wrapping-add-u64 : tie.Need-array-read-wrapping-add-u64 Inv-loop μ-loop
+array-read-wrapping-add-u64 c = search needs
 
 cast-wrapping-add-u64 : tie.Need-cast-wrapping-add-u64 Inv-loop μ-loop
 cast-wrapping-add-u64 c = search needs
@@ -35,14 +35,14 @@ loop-again c = search needs
 returns : tie.Need-returns Inv-loop μ-loop
 returns c = search needs
 
-pub waiting-spec : {M : Type 1} → statement M
-waiting-spec =
+pub flagged-spec : {M : Type 1} → statement M
+flagged-spec =
     tie.close
     (tie.spec
     Inv-loop
     μ-loop
     loop-holds
-    element-copy-out-wrapping-add-u64
+    array-read-wrapping-add-u64
     cast-wrapping-add-u64
     wrapping-add-u64-requires
     add-h

@@ -1,0 +1,42 @@
+// What goes wrong with a whole night, in one line on standard error. `play` reads these lines, too.
+use crate::night::Tally;
+use crate::print::numbered;
+use bench_lines::count::of_bytes;
+use bench_text::put::put;
+use libc::STDERR_FILENO;
+
+const ROOM: usize = 256;
+
+// Says the first bytes of a text. Where even that fails, there is nobody to tell.
+fn said(text: &[u8], end: usize) {
+    let count = of_bytes(end, text);
+    io::write_all(STDERR_FILENO, &text[..count]);
+}
+
+// The night was stopped, since a file could not be read or written.
+pub fn stopped(trouble: &[u8], lines: u64) {
+    let mut text = [0u8; ROOM];
+    let mut end = put(&mut text, 0, b"bench: ");
+    end = put(&mut text, end, trouble);
+    end = numbered(&mut text, end, b"; the night was stopped at line ", lines);
+    end = put(&mut text, end, b"\n");
+    said(&text, end);
+}
+
+// Some lines were not understood.
+pub fn misunderstood(tally: Tally, lines: u64) {
+    if tally.unreadable == 0 {
+        return;
+    }
+    let mut text = [0u8; ROOM];
+    let mut end = numbered(&mut text, 0, b"bench: ", tally.unreadable);
+    end = numbered(&mut text, end, b" of ", lines);
+    end = numbered(
+        &mut text,
+        end,
+        b" lines not understood, first at line ",
+        tally.first_unreadable,
+    );
+    end = put(&mut text, end, b"\n");
+    said(&text, end);
+}
