@@ -25,7 +25,6 @@ use bench_words::reading::Trouble;
 use bench_words::split::word;
 use can::OBJECTS;
 use can::State;
-use can::Verdict;
 use can_calls::answer::Answer;
 use can_calls::perform::Played;
 use can_calls::perform::perform;
@@ -39,23 +38,6 @@ fn origins_after(origins: [u64; OBJECTS], answer: Answer, line: u64) -> [u64; OB
         Answer::TakenBy(h) => with_origin(origins, h, line),
         Answer::Stored(h) => with_origin(origins, h, line),
         _ => origins,
-    }
-}
-
-// The object whose frame was sent, with the present line for it.
-fn sents_after(
-    sents: [u64; OBJECTS],
-    request: Request,
-    verdict: Verdict,
-    line: u64,
-) -> [u64; OBJECTS] {
-    let function = request.function;
-    match verdict {
-        Verdict::Accepted => match function {
-            Function::Sent => with_origin(sents, request.object, line),
-            _ => sents,
-        },
-        Verdict::Rejected(_) => sents,
     }
 }
 
@@ -206,19 +188,15 @@ fn told(
 }
 
 // The night after a call.
-fn after(night: Night, request: Request, played: Played, told: Told) -> Night {
+fn after(night: Night, played: Played, told: Told) -> Night {
     let state = played.state;
     let answer = played.answer;
-    let verdict = played.verdict;
     let before = night.origins;
     let origins = origins_after(before, answer, night.line);
-    let sent_before = night.sents;
-    let sents = sents_after(sent_before, request, verdict, night.line);
     let tally = told.tally;
     Night {
         state: state,
         origins: origins,
-        sents: sents,
         tally: tally,
         plain: night.plain,
         line: night.line,
@@ -241,7 +219,7 @@ fn answered(
     taken: &mut [u8],
 ) -> Night {
     let told = told(night, wanted, played, memory, sheet, out, taken);
-    after(night, wanted.request, played, told)
+    after(night, played, told)
 }
 
 // Plays a call and tells what came of it.
@@ -294,7 +272,7 @@ fn lent(night: Night, word: &[u8], n: u32, unit: &[u8], out: &mut [u8]) -> usize
 fn unreadable(night: Night, trouble: Trouble, line: &[u8], out: &mut [u8]) -> usize {
     if night.plain {
         let name = name_of(word(line, 0));
-        return plain::unreadable(out, night.at, night.line, trouble, name);
+        return plain::unreadable(out, night.at, night.line, trouble, name, line);
     }
     let numbered_line = numbered(out, night.at, b"", night.line);
     let mut end = put(out, numbered_line, b" ? ");

@@ -17,6 +17,7 @@ mod report;
 mod state;
 mod style;
 mod summary;
+mod suspect;
 mod tell;
 mod terse;
 mod trouble;

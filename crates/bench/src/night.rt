@@ -21,12 +21,11 @@ pub struct Tally {
     pub first_unreadable: u64,
 }
 
-// The driver state; for each object the line that wrote or brought its frame, and the line that last sent one; the line's number; the lengths lent, in words and
+// The driver state; for each object the line that wrote or brought its frame; the line's number; the lengths lent, in words and
 // bytes; how far the output and the list of frames taken by bus-off are filled; and whether the output could not be written.
 pub struct Night {
     pub state: State,
     pub origins: [u64; OBJECTS],
-    pub sents: [u64; OBJECTS],
     pub tally: Tally,
     pub plain: bool,
     pub line: u64,
@@ -60,7 +59,6 @@ pub fn begun(plain: bool) -> Night {
     Night {
         state: state,
         origins: [0u64; OBJECTS],
-        sents: [0u64; OBJECTS],
         tally: tally,
         plain: plain,
         line: 0,

@@ -9,6 +9,7 @@ use crate::print::right;
 use crate::print::to_column;
 use crate::refused;
 use crate::state;
+use crate::suspect;
 use crate::trouble::expected;
 use crate::trouble::message;
 use bench_requests::request::Wanted;
@@ -89,11 +90,25 @@ pub fn lent(out: &mut [u8], at: usize, line: u64, word: &[u8], n: u32, unit: &[u
     put(out, end, unit)
 }
 
-// A line that can't be read, and what was expected.
-pub fn unreadable(out: &mut [u8], at: usize, line: u64, trouble: Trouble, name: Name) -> usize {
-    let mut end = begun(out, at, line);
+// What is wrong with which word, and what may have been meant.
+fn wrong(out: &mut [u8], at: usize, trouble: Trouble, name: Name, line: &[u8]) -> usize {
+    let mut end = message(out, at, trouble);
+    end = suspect::shown(out, end, trouble, name, line);
+    suspect::guessed(out, end, line)
+}
+
+// A line that can't be read: its number, what is wrong with which word, and what was expected.
+pub fn unreadable(
+    out: &mut [u8],
+    at: usize,
+    number: u64,
+    trouble: Trouble,
+    name: Name,
+    line: &[u8],
+) -> usize {
+    let mut end = begun(out, at, number);
     end = put(out, end, b"not understood: ");
-    end = message(out, end, trouble);
+    end = wrong(out, end, trouble, name, line);
     end = put(out, end, b"; expected ");
     end = expected(out, end, trouble, name);
     put(out, end, b"\n")

@@ -14,9 +14,6 @@ use can::State;
 // The width of the column for a controller.
 const CONTROLLER_WIDTH: usize = 29;
 
-// The width of the column for what became of a frame so far.
-const FATE_WIDTH: usize = 22;
-
 // Whether the controller of an object is off the bus, and no poll has told so yet.
 fn is_off(state: State, h: usize) -> bool {
     if OBJECTS <= h {
@@ -46,21 +43,18 @@ fn controller(out: &mut [u8], at: usize, state: State, h: usize) -> usize {
     to_column(out, end, at, CONTROLLER_WIDTH)
 }
 
-// Whether the frame of an object was sent, and by which line.
-fn fate(out: &mut [u8], at: usize, sent: bool, line: u64) -> usize {
+// Whether the frame of an object was sent.
+fn fate(out: &mut [u8], at: usize, sent: bool) -> usize {
     if sent {
-        let end = numbered(out, at, b"sent at line ", line);
-        return to_column(out, end, at, FATE_WIDTH);
+        return put(out, at, b"sent, not confirmed  ");
     }
-    let end = put(out, at, b"not sent");
-    to_column(out, end, at, FATE_WIDTH)
+    put(out, at, b"not sent             ")
 }
 
 // The frame of an object, where one waits.
 fn one(out: &mut [u8], at: usize, night: Night, ram: &[u8], h: usize) -> usize {
     let state = night.state;
     let origins = night.origins;
-    let sents = night.sents;
     if OBJECTS <= h {
         return at;
     }
@@ -69,7 +63,7 @@ fn one(out: &mut [u8], at: usize, night: Night, ram: &[u8], h: usize) -> usize {
     }
     let object = h as u32;
     let mut end = controller(out, at, state, h);
-    end = fate(out, end, state.dones[h], origin(sents, object));
+    end = fate(out, end, state.dones[h]);
     whole(
         out,
         end,
