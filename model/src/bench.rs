@@ -1,11 +1,12 @@
 //! The bench: the driver state, its own memory and the lengths it lends.
 
+use crate::draft::Draft;
 use crate::events::Arrival;
 use crate::limits::{MEMORY_BYTES, RECORD_WORDS, SHEET_WORDS};
 use crate::mailbox;
 use crate::mode::Mode;
 use crate::outcome::Outcome;
-use crate::script::{Call, Command, Poll, LONGEST_SHEET};
+use crate::script::{Call, Command, Poll, Trouble, LONGEST_SHEET};
 use crate::state::State;
 
 /// What a call answers besides code and reason.
@@ -20,7 +21,7 @@ pub enum Answer {
 /// What came of a command.
 #[derive(Debug, PartialEq, Eq)]
 pub enum Played<'a> {
-    /// `sheet` and `memory` answer nothing.
+    /// `sheet`, `memory`, `controllers` and `object` answer nothing.
     Nothing,
     /// A service, poll or event, with its records.
     Call { name: &'static str, code: u32, reason: u32, answer: Answer, records: &'a [u32] },
@@ -35,6 +36,8 @@ pub enum Played<'a> {
 /// The desk bench. It keeps its own 2,304 bytes and lends as many as asked for.
 pub struct Bench {
     state: State,
+    /// The configuration in words.
+    draft: Draft,
     memory: [u8; MEMORY_BYTES],
     memory_lent: usize,
     sheet: Vec<u32>,
@@ -47,6 +50,7 @@ impl Default for Bench {
     fn default() -> Bench {
         Bench {
             state: State::default(),
+            draft: Draft::default(),
             memory: [0; MEMORY_BYTES],
             memory_lent: MEMORY_BYTES,
             sheet: vec![0; LONGEST_SHEET as usize],
@@ -60,6 +64,11 @@ impl Bench {
     /// The driver state.
     pub fn state(&self) -> &State {
         &self.state
+    }
+
+    /// The configuration in words, as the lines so far have said it.
+    pub fn draft(&self) -> &Draft {
+        &self.draft
     }
 
     /// The bench's own memory.
@@ -77,21 +86,24 @@ impl Bench {
         self.sheet_lent
     }
 
-    /// Plays one command.
-    pub fn play(&mut self, command: Command) -> Played<'_> {
+    /// Plays one command. The only trouble left is one object too many.
+    pub fn play(&mut self, command: Command) -> Result<Played<'_>, Trouble> {
         match command {
-            Command::Call(call) => self.play_lent(call),
-            Command::Sheet { words } => {
-                self.sheet_lent = words;
-                Played::Nothing
+            Command::Call(call) => return Ok(self.play_lent(call)),
+            Command::InitInWords => {
+                let bytes = self.draft.bytes().to_vec();
+                return Ok(self.play_lent(Call::Init { bytes: &bytes }));
             }
-            Command::Memory { bytes } => {
-                self.memory_lent = bytes;
-                Played::Nothing
+            Command::Show { object } => {
+                return Ok(Played::Show(mailbox::object_bytes(&self.memory, object)));
             }
-            Command::Show { object } => Played::Show(mailbox::object_bytes(&self.memory, object)),
-            Command::State => Played::State(&self.state),
+            Command::State => return Ok(Played::State(&self.state)),
+            Command::Controllers { count } => self.draft = Draft::of(count),
+            Command::Object { record } => self.draft.add(&record)?,
+            Command::Sheet { words } => self.sheet_lent = words,
+            Command::Memory { bytes } => self.memory_lent = bytes,
         }
+        Ok(Played::Nothing)
     }
 
     /// Plays one call with the sheet and memory lent at present.

@@ -4,7 +4,7 @@ use crate::identifier::{EXTENDED, EXTENDED_ONLY, FD, SPARE};
 use crate::limits::{CONTROLLERS, OBJECTS};
 
 /// The three bytes "CHB", then version 00 01.
-const START: [u8; 5] = [0x43, 0x48, 0x42, 0x00, 0x01];
+pub(crate) const START: [u8; 5] = [0x43, 0x48, 0x42, 0x00, 0x01];
 const HEADER_BYTES: usize = 8;
 const RECORD_BYTES: usize = 12;
 

@@ -6,6 +6,7 @@
 pub mod bench;
 pub mod compare;
 pub mod config;
+pub mod draft;
 pub mod events;
 pub mod filter;
 pub mod hostile;

@@ -27,21 +27,24 @@ impl Night {
     /// changes nothing, is answered in its place, and the night goes on.
     pub fn play_line(&mut self, line: Line, out: &mut Vec<u8>) {
         self.line += 1;
-        let read = match line {
-            Line::Text(text) => script::read(text, &mut self.bytes),
-            Line::TooLong => Err(Trouble::LineTooLong),
-        };
-        match read {
-            Ok(Some(command)) => words::print(out, self.line, &self.bench.play(command)),
-            Ok(None) => (),
-            Err(trouble) => {
-                if self.bad == 0 {
-                    self.first_bad = self.line;
-                }
-                self.bad += 1;
-                words::print_trouble(out, self.line, trouble);
+        if let Err(trouble) = self.play_read(line, out) {
+            if self.bad == 0 {
+                self.first_bad = self.line;
             }
+            self.bad += 1;
+            words::print_trouble(out, self.line, trouble);
         }
+    }
+
+    /// Reads a line, plays it and prints its answer.
+    fn play_read(&mut self, line: Line, out: &mut Vec<u8>) -> Result<(), Trouble> {
+        let Line::Text(text) = line else {
+            return Err(Trouble::LineTooLong);
+        };
+        if let Some(command) = script::read(text, &mut self.bytes)? {
+            words::print(out, self.line, &self.bench.play(command)?);
+        }
+        Ok(())
     }
 
     /// What the bench says on standard error of a night that was read whole: nothing where every line was understood.

@@ -2,6 +2,7 @@
 
 use std::fmt;
 
+use crate::draft::{self, Record};
 use crate::identifier::Identifier;
 
 /// The longest sheet a script may lend, in words.
@@ -11,9 +12,13 @@ pub const LONGEST_SHEET: u32 = 4096;
 pub const LONGEST_MEMORY: u32 = 16_384;
 
 /// One command of a script: a call, or a wish to the bench itself.
+/// `InitInWords` is Init with the configuration that `Controllers` and `Object` say.
 #[derive(Clone, Copy, Debug, PartialEq, Eq)]
 pub enum Command<'a> {
     Call(Call<'a>),
+    InitInWords,
+    Controllers { count: u8 },
+    Object { record: Record },
     Sheet { words: usize },
     Memory { bytes: usize },
     Show { object: u32 },
@@ -57,11 +62,16 @@ pub enum Trouble {
     IdentifierTooLong,
     NotHexDigits,
     OddDigits,
+    NotOneByte,
     NotAMode,
     UnknownPoll,
+    UnknownKind,
+    UnexpectedWord,
     HandleTooLarge,
     SheetTooLong,
     MemoryTooLong,
+    DoesNotFitAByte,
+    TooManyObjects,
 }
 
 impl fmt::Display for Trouble {
@@ -77,17 +87,38 @@ impl fmt::Display for Trouble {
             Trouble::IdentifierTooLong => "identifier too long",
             Trouble::NotHexDigits => "not hex digits",
             Trouble::OddDigits => "odd number of digits",
+            Trouble::NotOneByte => "not one byte",
             Trouble::NotAMode => "not a mode",
             Trouble::UnknownPoll => "unknown poll",
+            Trouble::UnknownKind => "unknown kind of object",
+            Trouble::UnexpectedWord => "unexpected word",
             Trouble::HandleTooLarge => "handle too large",
             Trouble::SheetTooLong => "sheet too long",
             Trouble::MemoryTooLong => "memory too long",
+            Trouble::DoesNotFitAByte => "does not fit a byte",
+            Trouble::TooManyObjects => "too many objects",
         })
     }
 }
 
-/// The most words a command has after its name.
-const MOST_ARGUMENTS: usize = 4;
+/// The most words a command has after its name, its bytes left aside.
+const MOST_ARGUMENTS: usize = 3;
+
+/// The words after a command word: so many single ones, then perhaps bytes.
+#[derive(Clone, Copy)]
+struct Arguments {
+    single: usize,
+    last: Last,
+}
+
+/// What stands behind the single words.
+#[derive(Clone, Copy, PartialEq, Eq)]
+enum Last {
+    Nothing,
+    /// One word or several.
+    Bytes,
+    BytesOrNothing,
+}
 
 /// Reads one line without its line end. `None` is a blank line or a comment.
 /// The bytes of a command are decoded into `bytes`.
@@ -96,62 +127,73 @@ pub fn read<'a>(line: &[u8], bytes: &'a mut Vec<u8>) -> Result<Option<Command<'a
     let Some(name) = words.next() else {
         return Ok(None);
     };
-    let expected = arguments_of(name).ok_or(Trouble::UnknownCommand)?;
+    if name == b"object" {
+        return Ok(Some(Command::Object { record: draft::object(words)? }));
+    }
+    let arguments = arguments_of(name).ok_or(Trouble::UnknownCommand)?;
     let mut places = [&[][..]; MOST_ARGUMENTS];
-    for place in &mut places[..expected] {
+    for place in &mut places[..arguments.single] {
         *place = words.next().ok_or(Trouble::WordMissing)?;
     }
-    if words.next().is_some() {
-        return Err(Trouble::WordTooMany);
+    match (arguments.last, words.clone().next()) {
+        (Last::Nothing, Some(_)) => return Err(Trouble::WordTooMany),
+        (Last::Bytes, None) => return Err(Trouble::WordMissing),
+        (Last::BytesOrNothing, None) => return Ok(Some(Command::InitInWords)),
+        _ => (),
     }
-    command(name, places, bytes).map(Some)
+    command(name, places, words, bytes).map(Some)
 }
 
-/// The words of a line, up to a comment, separated by spaces or tabs.
-pub fn words(line: &[u8]) -> impl Iterator<Item = &[u8]> {
+/// The words of a line, up to a comment, separated by spaces, tabs or commas.
+pub fn words(line: &[u8]) -> impl Iterator<Item = &[u8]> + Clone {
     let text = line.split(|&byte| byte == b'#').next().unwrap_or_default();
-    text.split(|&byte| byte == b' ' || byte == b'\t').filter(|word| !word.is_empty())
+    text.split(|byte| b" \t,".contains(byte)).filter(|word| !word.is_empty())
 }
 
-/// How many words follow this command word; `None` if it is unknown.
-fn arguments_of(name: &[u8]) -> Option<usize> {
-    Some(match name {
-        b"deinit" | b"state" => 0,
-        b"init" | b"get" | b"poll" | b"sent" | b"busoff" | b"data" | b"sheet" | b"memory"
-        | b"show" => 1,
-        b"set" => 2,
-        b"arrived" => 3,
-        b"write" => 4,
+/// What follows this command word; `None` if it is unknown.
+fn arguments_of(name: &[u8]) -> Option<Arguments> {
+    let (single, last) = match name {
+        b"deinit" | b"state" => (0, Last::Nothing),
+        b"get" | b"poll" | b"sent" | b"busoff" | b"data" | b"sheet" | b"memory" | b"show"
+        | b"controllers" => (1, Last::Nothing),
+        b"set" => (2, Last::Nothing),
+        b"init" => (0, Last::BytesOrNothing),
+        b"arrived" => (2, Last::Bytes),
+        b"write" => (3, Last::Bytes),
         _ => return None,
-    })
+    };
+    Some(Arguments { single, last })
 }
 
 /// Reads the words after a known command word, from left to right.
-fn command<'a>(
+fn command<'a, 'w>(
     name: &[u8],
     places: [&[u8]; MOST_ARGUMENTS],
+    rest: impl Iterator<Item = &'w [u8]> + Clone,
     bytes: &'a mut Vec<u8>,
 ) -> Result<Command<'a>, Trouble> {
     let first = places[0];
     Ok(match name {
+        b"controllers" => Command::Controllers { count: byte(first)? },
         b"sheet" => Command::Sheet { words: limited(first, LONGEST_SHEET, Trouble::SheetTooLong)? },
         b"memory" => {
             Command::Memory { bytes: limited(first, LONGEST_MEMORY, Trouble::MemoryTooLong)? }
         }
         b"show" => Command::Show { object: number(first)? },
         b"state" => Command::State,
-        _ => Command::Call(call(name, places, bytes)?),
+        _ => Command::Call(call(name, places, rest, bytes)?),
     })
 }
 
-/// The same for the commands that are calls.
-fn call<'a>(
+/// The same for the commands that are calls; `rest` are the words of the bytes.
+fn call<'a, 'w>(
     name: &[u8],
-    [first, second, third, fourth]: [&[u8]; MOST_ARGUMENTS],
+    [first, second, third]: [&[u8]; MOST_ARGUMENTS],
+    rest: impl Iterator<Item = &'w [u8]> + Clone,
     bytes: &'a mut Vec<u8>,
 ) -> Result<Call<'a>, Trouble> {
     Ok(match name {
-        b"init" => Call::Init { bytes: hex_bytes(first, bytes)? },
+        b"init" => Call::Init { bytes: hex_bytes(rest, bytes)? },
         b"deinit" => Call::DeInit,
         b"set" => Call::Set { controller: number(first)?, mode: mode(second)? },
         b"get" => Call::Get { controller: number(first)? },
@@ -159,7 +201,7 @@ fn call<'a>(
             object: number(first)?,
             handle: handle(second)?,
             identifier: identifier(third)?,
-            data: hex_bytes(fourth, bytes)?,
+            data: hex_bytes(rest, bytes)?,
         },
         b"poll" => Call::Poll(poll(first)?),
         b"sent" => Call::Sent { object: number(first)? },
@@ -167,7 +209,7 @@ fn call<'a>(
         b"arrived" => Call::Arrived {
             controller: number(first)?,
             identifier: identifier(second)?,
-            data: hex_bytes(third, bytes)?,
+            data: hex_bytes(rest, bytes)?,
         },
         b"data" => Call::Data { object: number(first)? },
         _ => return Err(Trouble::UnknownCommand),
@@ -201,6 +243,11 @@ fn limited(word: &[u8], limit: u32, trouble: Trouble) -> Result<usize, Trouble> 
     Ok(value as usize)
 }
 
+/// A number that a byte holds.
+pub(crate) fn byte(word: &[u8]) -> Result<u8, Trouble> {
+    u8::try_from(number(word)?).map_err(|_| Trouble::DoesNotFitAByte)
+}
+
 /// A handle of 16 bits.
 fn handle(word: &[u8]) -> Result<u16, Trouble> {
     u16::try_from(number(word)?).map_err(|_| Trouble::HandleTooLarge)
@@ -231,7 +278,7 @@ fn poll(word: &[u8]) -> Result<Poll, Trouble> {
 }
 
 /// An identifier: 1 to 8 hexadecimal digits, with or without 0x.
-fn identifier(word: &[u8]) -> Result<Identifier, Trouble> {
+pub(crate) fn identifier(word: &[u8]) -> Result<Identifier, Trouble> {
     let digits = word.strip_prefix(b"0x").unwrap_or(word);
     if digits.is_empty() {
         return Err(Trouble::NotAnIdentifier);
@@ -247,24 +294,53 @@ fn identifier(word: &[u8]) -> Result<Identifier, Trouble> {
     Ok(Identifier(value))
 }
 
-/// Bytes as hex digits in pairs, `-` for none.
-fn hex_bytes<'a>(word: &[u8], bytes: &'a mut Vec<u8>) -> Result<&'a [u8], Trouble> {
+/// Bytes as hex digits in pairs, in one word or several; `-` alone stands for none.
+fn hex_bytes<'a, 'w>(
+    words: impl Iterator<Item = &'w [u8]> + Clone,
+    bytes: &'a mut Vec<u8>,
+) -> Result<&'a [u8], Trouble> {
     bytes.clear();
-    if word == b"-" {
+    if words.clone().eq([b"-"]) {
         return Ok(bytes);
     }
-    if !word.iter().all(u8::is_ascii_hexdigit) {
-        return Err(Trouble::NotHexDigits);
+    for word in words {
+        whole_bytes(word, bytes)?;
     }
+    Ok(bytes)
+}
+
+/// One word of whole bytes, added to those before it.
+fn whole_bytes(word: &[u8], bytes: &mut Vec<u8>) -> Result<(), Trouble> {
+    all_digits(word)?;
     if !word.len().is_multiple_of(2) {
         return Err(Trouble::OddDigits);
     }
     for pair in word.chunks_exact(2) {
-        let high = hex_digit(pair[0]).ok_or(Trouble::NotHexDigits)?;
-        let low = hex_digit(pair[1]).ok_or(Trouble::NotHexDigits)?;
-        bytes.push(high << 4 | low);
+        bytes.push(one_byte(pair)?);
     }
-    Ok(bytes)
+    Ok(())
+}
+
+/// A byte of exactly two hex digits.
+pub(crate) fn one_byte(word: &[u8]) -> Result<u8, Trouble> {
+    all_digits(word)?;
+    match *word {
+        [high, low] => {
+            let high = hex_digit(high).ok_or(Trouble::NotHexDigits)?;
+            let low = hex_digit(low).ok_or(Trouble::NotHexDigits)?;
+            Ok(high << 4 | low)
+        }
+        _ => Err(Trouble::NotOneByte),
+    }
+}
+
+/// The trouble with a word that has anything but hex digits in it.
+fn all_digits(word: &[u8]) -> Result<(), Trouble> {
+    if word.iter().all(u8::is_ascii_hexdigit) {
+        Ok(())
+    } else {
+        Err(Trouble::NotHexDigits)
+    }
 }
 
 /// The value of a hex digit, upper or lower case.
@@ -292,7 +368,12 @@ mod tests {
     #[test]
     fn every_command_is_read() {
         reads("init 43aBFf", Call::Init { bytes: &[0x43, 0xAB, 0xFF] });
+        reads("init 43 aBFf 00", Call::Init { bytes: &[0x43, 0xAB, 0xFF, 0] });
         reads("init -", Call::Init { bytes: &[] });
+        reads_command("init", Command::InitInWords);
+        reads_command("controllers 0xFF", Command::Controllers { count: 255 });
+        let record = [1, 0, 64, 0xCC, 0, 0, 0, 0, 0, 0, 0, 0];
+        reads_command("object send controller 1 payload 64 padding CC", Command::Object { record });
         reads("deinit", Call::DeInit);
         reads("set 0 STARTED", Call::Set { controller: 0, mode: 1 });
         reads("set 1 STOPPED", Call::Set { controller: 1, mode: 2 });
@@ -340,9 +421,14 @@ mod tests {
         assert_eq!(trouble("fly me"), Some(Trouble::UnknownCommand));
         assert_eq!(trouble("Init -"), Some(Trouble::UnknownCommand));
         assert_eq!(trouble("poll-write"), Some(Trouble::UnknownCommand));
-        assert_eq!(trouble("init"), Some(Trouble::WordMissing));
         assert_eq!(trouble("write x y z"), Some(Trouble::WordMissing));
-        assert_eq!(trouble("write x y z 0 0"), Some(Trouble::WordTooMany));
+        assert_eq!(trouble("write x y z 0 0"), Some(Trouble::NotANumber));
+        assert_eq!(trouble("arrived x y"), Some(Trouble::WordMissing));
+        assert_eq!(trouble("controllers"), Some(Trouble::WordMissing));
+        assert_eq!(trouble("controllers x y"), Some(Trouble::WordTooMany));
+        assert_eq!(trouble("object"), Some(Trouble::WordMissing));
+        assert_eq!(trouble("object # send"), Some(Trouble::WordMissing));
+        assert_eq!(trouble("objects send"), Some(Trouble::UnknownCommand));
         assert_eq!(trouble("deinit x"), Some(Trouble::WordTooMany));
         assert_eq!(trouble("state 0"), Some(Trouble::WordTooMany));
         assert_eq!(trouble("poll"), Some(Trouble::WordMissing));
@@ -372,6 +458,9 @@ mod tests {
         assert_eq!(trouble("sheet 4294967296"), Some(Trouble::NumberTooLarge));
         assert_eq!(trouble("memory 16385"), Some(Trouble::MemoryTooLong));
         assert_eq!(trouble("memory -"), Some(Trouble::NotANumber));
+        assert_eq!(trouble("controllers 256"), Some(Trouble::DoesNotFitAByte));
+        assert_eq!(trouble("controllers 4294967296"), Some(Trouble::NumberTooLarge));
+        assert_eq!(trouble("controllers ff"), Some(Trouble::NotANumber));
     }
 
     #[test]
@@ -403,6 +492,28 @@ mod tests {
             assert_eq!(trouble(&format!("init {word}")), Some(expected), "{word}");
         }
         assert_eq!(trouble("init 012"), Some(Trouble::OddDigits));
+    }
+
+    #[test]
+    fn bytes_in_several_words() {
+        let data = &[1, 2, 3, 4, 5];
+        reads(
+            "write 0 0 0 01 020304\t05",
+            Call::Write { object: 0, handle: 0, identifier: Identifier(0), data },
+        );
+        reads(
+            "arrived 0 0 0102 03 04 05# 06",
+            Call::Arrived { controller: 0, identifier: Identifier(0), data },
+        );
+        for words in ["- -", "00 -", "- 00", "00 - 00", "00 0x01", "00 0"] {
+            let expected = if words == "00 0" { Trouble::OddDigits } else { Trouble::NotHexDigits };
+            for start in ["init", "write 0 0 0", "arrived 0 0"] {
+                assert_eq!(trouble(&format!("{start} {words}")), Some(expected), "{words}");
+            }
+        }
+        assert_eq!(trouble("init 0 g"), Some(Trouble::OddDigits));
+        assert_eq!(trouble("init g 0"), Some(Trouble::NotHexDigits));
+        assert_eq!(trouble("init 4 3"), Some(Trouble::OddDigits), "not even where they sum up");
     }
 
     #[test]

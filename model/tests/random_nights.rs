@@ -45,16 +45,29 @@ struct ModeBook {
     modes: [u32; 4],
     wishes: [Option<u32>; 4],
     marks: [bool; 4],
+    /// The controllers of the configuration in words.
+    said: usize,
 }
 
 impl ModeBook {
+    /// Notes a line that is understood and prints nothing.
+    fn note_silent(&mut self, words: &[&str]) {
+        if let ["controllers", count] = *words {
+            self.said = plain_number(count) as usize;
+        }
+    }
+
     fn note(&mut self, name: &str, words: &[&str]) {
         match name {
             "init" => {
-                let count = usize::from_str_radix(&words[1][10..12], 16).expect("hex");
+                let digits = words[1..].concat();
+                let count = match digits.get(10..12) {
+                    Some(count) => usize::from_str_radix(count, 16).expect("hex"),
+                    None => self.said,
+                };
                 self.modes[..count].fill(2);
             }
-            "deinit" => *self = ModeBook::default(),
+            "deinit" => *self = ModeBook { said: self.said, ..ModeBook::default() },
             "set" => {
                 let wish = match words[2] {
                     "STARTED" => 1,
@@ -161,7 +174,8 @@ impl FrameBook {
         };
         let digits = words[2].trim_start_matches("0x");
         let identifier = u32::from_str_radix(digits, 16).expect("hex");
-        let length = if words[3] == "-" { 0 } else { words[3].len() as u32 / 2 };
+        let data = words[3..].concat();
+        let length = if data == "-" { 0 } else { data.len() as u32 / 2 };
         let earlier = self.stored.insert(plain_number(object), (identifier, length));
         assert!(earlier.is_none(), "stored in a full object");
     }
@@ -186,6 +200,12 @@ fn judge(seed: u64, style: Style, lines: usize) -> (usize, usize) {
         let bench = maker.bench();
         assert!(bench.state().is_sound());
         frames.compare(bench.memory());
+        let text = String::from_utf8_lossy(&line);
+        let text = text.split('#').next().expect("a first part");
+        let words: Vec<&str> = text.split_ascii_whitespace().collect();
+        if maker.last_answer().is_empty() {
+            modes.note_silent(&words);
+        }
         let Some(printed) = Printed::read(maker.last_answer()) else {
             continue;
         };
@@ -194,9 +214,6 @@ fn judge(seed: u64, style: Style, lines: usize) -> (usize, usize) {
             continue;
         }
         yes += 1;
-        let text = String::from_utf8_lossy(&line);
-        let text = text.split('#').next().expect("a first part");
-        let words: Vec<&str> = text.split_ascii_whitespace().collect();
         modes.note(&printed.name, &words);
         frames.note(&printed, &words, bench.memory());
         for (place, mode) in bench.state().controllers.iter().zip(modes.modes) {
@@ -259,5 +276,67 @@ fn the_maker_answers_as_the_program_does() {
             pump_model::night::play(&script[..], &mut output).expect("no trouble in memory");
         night.end(&mut answers);
         assert_eq!(output, answers);
+    }
+}
+
+/// The lines of some nights with what was answered to each, without its line number.
+fn answered(seeds: std::ops::Range<u64>, style: Style, lines: usize) -> Vec<(String, String)> {
+    let mut all = Vec::new();
+    for seed in seeds {
+        let mut maker = Maker::new(seed, style);
+        for _ in 0..lines {
+            let line = String::from_utf8_lossy(&maker.next_line()).trim_end().to_string();
+            let answer = String::from_utf8_lossy(maker.last_answer()).trim_end().to_string();
+            let answer = answer.split_once(' ').map_or("", |(_, answer)| answer).to_string();
+            all.push((line, answer));
+        }
+    }
+    all
+}
+
+#[test]
+fn configurations_are_said_in_words() {
+    for (style, least) in [(Style::Calm, 10), (Style::Wild, 20)] {
+        let lines = answered(0..4, style, 10_000);
+        let count = |line: &str, answer: &str| {
+            lines.iter().filter(|(l, a)| l == line && a.starts_with(answer)).count()
+        };
+        assert!(count("init", "init 0 0") > least, "{} accepted", count("init", "init 0 0"));
+        // Calm nights say good ones, at times too early.
+        let bad = count("init", "init 1 9");
+        assert!(if style == Style::Calm { bad == 0 } else { bad > 20 }, "{bad} bad ones");
+        let added = lines.iter().filter(|(l, a)| l.starts_with("object ") && a.is_empty()).count();
+        assert!(added > 100 && added < 4000, "{added} objects in 40,000 lines");
+    }
+}
+
+#[test]
+fn a_wild_night_has_every_trouble() {
+    let lines = answered(0..8, Style::Wild, 10_000);
+    for trouble in [
+        "line too long",
+        "unknown command",
+        "a word is missing",
+        "a word too many",
+        "not a number",
+        "number too large",
+        "not an identifier",
+        "identifier too long",
+        "not hex digits",
+        "odd number of digits",
+        "not one byte",
+        "not a mode",
+        "unknown poll",
+        "unknown kind of object",
+        "unexpected word",
+        "handle too large",
+        "sheet too long",
+        "memory too long",
+        "does not fit a byte",
+        "too many objects",
+    ] {
+        let answer = format!("? {trouble}");
+        let count = lines.iter().filter(|(_, a)| *a == answer).count();
+        assert!(count > 2, "{trouble}: {count}");
     }
 }

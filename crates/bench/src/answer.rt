@@ -1,49 +1,44 @@
 // What an accepted call answers, in words.
-use crate::frames::mode;
-use crate::print::numbered;
-use crate::state;
-use bench_text::put::put;
+use crate::say::NUMBERS;
+use crate::say::one;
+use crate::say::say;
+use crate::say::two;
+use bench_words::piece::piece;
 use can::State;
 use can_calls::answer::Answer;
 use can_calls::request::Function;
 
-// What a poll tells stands in the lines under it.
-fn polled(out: &mut [u8], at: usize, notifications: usize) -> usize {
-    if notifications == 0 {
-        return put(out, at, b"accepted: nothing to report");
-    }
-    put(out, at, b"accepted")
-}
-
-fn initialised(out: &mut [u8], at: usize, next: State) -> usize {
-    let end = put(out, at, b"accepted: ");
-    state::in_use(out, end, next.controller_count, next.object_count)
-}
-
-// A call that answers nothing but its verdict.
-fn accepted(
-    out: &mut [u8],
-    at: usize,
-    function: Function,
-    next: State,
-    notifications: usize,
-) -> usize {
+// The place in the table below of a call that answers nothing but its verdict. What a poll tells stands in the lines under it.
+fn place_of(function: Function, notifications: usize) -> usize {
     match function {
-        Function::Init => initialised(out, at, next),
-        Function::Set => put(out, at, b"accepted: waits for the mode poll"),
+        Function::Init => 1,
+        Function::Set => 2,
         Function::PollWrite | Function::PollRead | Function::PollMode | Function::PollBusOff => {
-            polled(out, at, notifications)
+            if notifications == 0 { 3 } else { 0 }
         }
-        _ => put(out, at, b"accepted"),
+        _ => 0,
     }
 }
 
-// An arrival.
-fn arrived(out: &mut [u8], at: usize, answer: Answer) -> usize {
+// The place of an answer.
+fn place(answer: Answer, function: Function, notifications: usize) -> usize {
     match answer {
-        Answer::Stored(h) => numbered(out, at, b"stored in object ", h as u64),
-        Answer::Unwanted => put(out, at, b"unwanted: no object fits"),
-        _ => put(out, at, b"lost: every object that fits is full"),
+        Answer::Nothing => place_of(function, notifications),
+        Answer::Mode(_) => 4,
+        Answer::TakenBy(_) => 5,
+        Answer::Stored(_) => 6,
+        Answer::Unwanted => 7,
+        Answer::Lost => 8,
+    }
+}
+
+// Its numbers: those of the configuration in use where nothing else is answered.
+fn numbers(answer: Answer, next: State) -> [u64; NUMBERS] {
+    match answer {
+        Answer::Mode(m) => one(m as u64),
+        Answer::TakenBy(h) => one(h as u64),
+        Answer::Stored(h) => one(h as u64),
+        _ => two(next.controller_count as u64, next.object_count as u64),
     }
 }
 
@@ -55,10 +50,15 @@ pub fn call(
     next: State,
     notifications: usize,
 ) -> usize {
-    match answer {
-        Answer::Nothing => accepted(out, at, function, next, notifications),
-        Answer::Mode(m) => mode(out, at, m),
-        Answer::TakenBy(h) => numbered(out, at, b"accepted: waits in object ", h as u64),
-        _ => arrived(out, at, answer),
-    }
+    let texts = b"accepted|\
+        accepted: %c, %o|\
+        accepted: waits for the mode poll|\
+        accepted: nothing to report|\
+        %m|\
+        accepted: waits in object %0|\
+        stored in object %0|\
+        unwanted: no object fits|\
+        lost: every object that fits is full";
+    let text = piece(texts, place(answer, function, notifications));
+    say(out, at, text, numbers(answer, next))
 }

@@ -1,52 +1,66 @@
 // The whole of a script, played line by line.
 ghost use mathlib.Core.Path.{_≡_};
 ghost use lib.ListN.{length};
+use crate::book;
 use crate::heard;
 use crate::heard::Heard;
 use crate::heard::sought;
 use crate::line;
 use crate::night;
+use crate::night::CANCELLED_AT;
 use crate::night::Night;
-use crate::print::numbered;
+use crate::night::OUT_ROOM;
+use crate::night::OUTPUT;
+use crate::night::TAKEN_AT;
 use crate::report;
+use crate::say::say;
+use crate::say::two;
 use crate::summary;
 use crate::waiting;
+use bench_draft::draft;
 use bench_lines::count::of_bytes;
 use bench_lines::reader::will_read;
 use bench_script::command::LARGEST_MEMORY;
 use bench_script::command::LARGEST_SHEET;
-use bench_text::put::put;
 use bench_words::bytes::LONGEST_LINE;
 use bench_words::bytes::MOST_BYTES;
+use bench_words::split::between;
 use can::RAM_SIZE;
 use libc::STDOUT_FILENO;
 
 // A line, and the CR before its LF or the byte that makes a line too long.
 const LINE_ROOM: usize = LONGEST_LINE + 1;
 
-// Room for the list of frames that a bus-off took.
-const TAKEN_ROOM: usize = 262144;
-
-// A list with nothing in it yet. The contract gives the length, which lending the array as a slice needs.
-fn taken_list() -> [u8; TAKEN_ROOM]
-    ensures { λ r. ⌜ 262144 ≡ length r ⌝ }
+// An output buffer and a book with nothing in them yet. The contracts give the lengths, which lending the arrays as slices needs.
+fn output() -> [u8; OUT_ROOM]
+    ensures { λ r. ⌜ 327680 ≡ length r ⌝ }
 {
-    [0; TAKEN_ROOM]
+    [0; OUT_ROOM]
 }
 
-// Writes what stands in the output buffer. Where that fails the night is stopped.
-fn written(night: Night, out: &[u8]) -> Night {
-    let end = of_bytes(night.at, out);
-    let done = io::write_all(STDOUT_FILENO, &out[..end]);
+fn empty_book() -> [u64; book::ROOM]
+    ensures { λ r. ⌜ 109 ≡ length r ⌝ }
+{
+    [0; book::ROOM]
+}
+
+// Writes a part of the output buffer. Where that fails the night is stopped.
+fn written_part(night: Night, out: &[u8], from: usize, to: usize) -> Night {
+    let done = io::write_all(STDOUT_FILENO, between(out, from, to));
     let mut next = night;
     next.at = 0;
     next.stuck = night.stuck | !done;
     next
 }
 
+// Writes what stands in the output buffer before the lists.
+fn written(night: Night, out: &[u8]) -> Night {
+    written_part(night, out, 0, night.at)
+}
+
 // The same once it is half full: the answer to a line takes less than the other half.
 fn written_if_full(night: Night, out: &[u8]) -> Night {
-    if night.at < out.len() / 2 {
+    if night.at < OUTPUT / 2 {
         return night;
     }
     written(night, out)
@@ -60,8 +74,9 @@ fn played(
     memory: &mut [u8],
     sheet: &mut [u32],
     bytes: &mut [u8; MOST_BYTES],
-    out: &mut [u8],
-    taken: &mut [u8],
+    draft: &mut [u8; draft::ROOM],
+    out: &mut [u8; OUT_ROOM],
+    book: &mut [u64; book::ROOM],
 ) -> Night {
     if !heard.said {
         return night;
@@ -70,7 +85,7 @@ fn played(
     let end = of_bytes(reader.count, line);
     let mut next = night;
     next.line = heard.lines;
-    next = line::play(next, &line[..end], memory, sheet, bytes, out, taken);
+    next = line::play(next, &line[..end], memory, sheet, bytes, draft, out, book);
     written_if_full(next, out)
 }
 
@@ -88,8 +103,9 @@ fn step(
     memory: &mut [u8],
     sheet: &mut [u32],
     bytes: &mut [u8; MOST_BYTES],
-    out: &mut [u8],
-    taken: &mut [u8],
+    draft: &mut [u8; draft::ROOM],
+    out: &mut [u8; OUT_ROOM],
+    book: &mut [u64; book::ROOM],
 ) -> Playing {
     let mut night = playing.night;
     let before = playing.heard;
@@ -98,7 +114,7 @@ fn step(
         night = written(night, out);
     }
     let heard = sought(before, input, line);
-    night = played(night, heard, line, memory, sheet, bytes, out, taken);
+    night = played(night, heard, line, memory, sheet, bytes, draft, out, book);
     Playing {
         night: night,
         heard: heard,
@@ -121,13 +137,14 @@ fn all(
     memory: &mut [u8],
     sheet: &mut [u32],
     bytes: &mut [u8; MOST_BYTES],
-    out: &mut [u8],
-    taken: &mut [u8],
+    draft: &mut [u8; draft::ROOM],
+    out: &mut [u8; OUT_ROOM],
+    book: &mut [u64; book::ROOM],
 ) -> Playing {
     let mut playing = start;
     let mut steps: u64 = 0xFFFFFFFFFFFFFFFF;
     while 0 < steps {
-        playing = step(playing, input, line, memory, sheet, bytes, out, taken);
+        playing = step(playing, input, line, memory, sheet, bytes, draft, out, book);
         steps = if is_over(playing) { 0 } else { steps - 1 };
     }
     playing
@@ -143,43 +160,51 @@ fn start(plain: bool) -> Playing {
     }
 }
 
-// Writes the totals of a night behind what stands in the output buffer, and the frames that still wait.
-fn summed_up(night: Night, ram: &[u8], out: &mut [u8]) -> Night {
+// Writes the totals of a night behind what stands in the output buffer, the frames that still wait, and the heading of the first list.
+fn summed_up(night: Night, ram: &[u8], out: &mut [u8], book: &[u64]) -> Night {
     let state = night.state;
-    let tally = night.tally;
     let mut last = night;
-    last.at = summary::totals(out, night.at, tally, state);
-    last.at = waiting::list(out, last.at, night, ram);
-    last.at = summary::heading(out, last.at, tally);
+    last.at = summary::totals(out, night.at, book, night);
+    last.at = waiting::list(out, last.at, state, book, ram);
+    last.at = summary::taken_heading(out, last.at, book);
     written(last, out)
 }
 
-// Writes the list of frames that a bus-off took.
-fn listed(night: Night, out: &mut [u8], taken: &[u8]) -> Night {
-    let tally = night.tally;
-    let end = of_bytes(night.taken_at, taken);
-    let done = io::write_all(STDOUT_FILENO, &taken[..end]);
-    let mut last = night;
-    last.stuck = night.stuck | !done;
-    last.at = summary::unlisted(out, 0, tally);
+// Writes the list of frames that a bus-off took, and the heading of the second list.
+fn taken_listed(night: Night, out: &mut [u8], book: &[u64]) -> Night {
+    let lists = night.lists;
+    let mut last = written_part(night, out, TAKEN_AT, lists.taken_at);
+    last.at = summary::unlisted(out, 0, lists.taken_unlisted);
+    last.at = summary::cancelled_heading(out, last.at, book);
+    written(last, out)
+}
+
+// Writes the list of frames that a stop cancelled.
+fn cancelled_listed(night: Night, out: &mut [u8]) -> Night {
+    let lists = night.lists;
+    let mut last = written_part(night, out, CANCELLED_AT, lists.cancelled_at);
+    last.at = summary::unlisted(out, 0, lists.cancelled_unlisted);
     written(last, out)
 }
 
 // `end LINES BAD`: lines read, and lines not understood.
 fn counted(night: Night, lines: u64, out: &mut [u8]) -> Night {
-    let tally = night.tally;
     let mut last = night;
-    last.at = numbered(out, night.at, b"end ", lines);
-    last.at = numbered(out, last.at, b" ", tally.unreadable);
-    last.at = put(out, last.at, b"\n");
+    last.at = say(out, night.at, b"end %0 %0\n", two(lines, night.unreadable));
     written(last, out)
 }
 
-// The end of a night that was played whole: in plain words its totals, the frames that still wait, and those that a bus-off took.
-fn finished(night: Night, lines: u64, ram: &[u8], out: &mut [u8], taken: &[u8]) -> Night {
+// The end of a night in plain words: its totals, the frames that still wait, and those that a bus-off took or a stop cancelled.
+fn told(night: Night, ram: &[u8], out: &mut [u8], book: &[u64]) -> Night {
+    let mut last = summed_up(night, ram, out, book);
+    last = taken_listed(last, out, book);
+    cancelled_listed(last, out)
+}
+
+// The end of a night that was played whole.
+fn finished(night: Night, lines: u64, ram: &[u8], out: &mut [u8], book: &[u64]) -> Night {
     if night.plain {
-        let last = summed_up(night, ram, out);
-        return listed(last, out, taken);
+        return told(night, ram, out, book);
     }
     counted(night, lines, out)
 }
@@ -190,11 +215,11 @@ fn judged(night: Night, lines: u64) {
         report::stopped(b"standard output cannot be written", lines);
         return;
     }
-    report::misunderstood(night.tally, lines);
+    report::misunderstood(night, lines);
 }
 
 // Ends the night. A script that could not be read to its end has no totals.
-fn ended(playing: Playing, memory: &[u8], out: &mut [u8], taken: &[u8]) {
+fn ended(playing: Playing, memory: &[u8], out: &mut [u8; OUT_ROOM], book: &mut [u64; book::ROOM]) {
     let night = playing.night;
     let heard = playing.heard;
     let reader = heard.reader;
@@ -208,19 +233,23 @@ fn ended(playing: Playing, memory: &[u8], out: &mut [u8], taken: &[u8]) {
         return;
     }
     let own = of_bytes(RAM_SIZE, memory);
-    let last = finished(night, heard.lines, &memory[..own], out, taken);
+    let state = night.state;
+    book::count_left_over(book, state);
+    let last = finished(night, heard.lines, &memory[..own], out, book);
     judged(last, heard.lines);
 }
 
 // Plays the night on standard input, from a fresh bench.
 pub fn play(plain: bool) {
     let mut input = io::large_buffer();
-    let mut out = io::large_buffer();
-    let mut taken = taken_list();
+    let mut out = output();
+    let mut book = empty_book();
     let mut line = [0u8; LINE_ROOM];
     let mut memory = [0u8; LARGEST_MEMORY];
     let mut sheet = [0u32; LARGEST_SHEET];
     let mut bytes = [0u8; MOST_BYTES];
+    let mut draft = [0u8; draft::ROOM];
+    draft::begin(&mut draft, 0);
     let end = all(
         start(plain),
         &mut input,
@@ -228,8 +257,9 @@ pub fn play(plain: bool) {
         &mut memory,
         &mut sheet,
         &mut bytes,
+        &mut draft,
         &mut out,
-        &mut taken,
+        &mut book,
     );
-    ended(end, &memory, &mut out, &taken);
+    ended(end, &memory, &mut out, &mut book);
 }

@@ -3,10 +3,14 @@
 //     bench [plain|words] < SCRIPT
 mod answer;
 mod asked;
+mod book;
+mod draft;
+mod fault;
 mod frames;
 mod heard;
 mod input;
 mod line;
+mod listed;
 mod night;
 mod notifications;
 mod object;
@@ -14,6 +18,7 @@ mod plain;
 mod print;
 mod refused;
 mod report;
+mod say;
 mod state;
 mod style;
 mod summary;

@@ -1,15 +1,11 @@
-// Notifications in words, and what they say became of the frames.
-use crate::frames::identifier_in;
-use crate::frames::mode;
-use crate::frames::whole;
-use crate::night::Tally;
-use crate::night::more;
-use crate::night::origin;
-use crate::print::numbered;
-use crate::print::right;
+// Notifications in words, as lines under their call.
+use crate::book::origin;
+use crate::frames::data;
+use crate::frames::written;
+use crate::say::NUMBERS;
+use crate::say::say;
 use bench_text::put::put;
 use bench_words::piece::piece;
-use can::OBJECTS;
 use core_layout::notification::WORDS;
 
 // The four words of a notification.
@@ -52,110 +48,56 @@ pub const DATA_LOST: u32 = 6;
 
 pub const CANCELLED: u32 = 7;
 
-// What a closing notification of a poll counts as. A bus-off poll takes the frames that it cancels.
-pub fn counted(tally: Tally, n: Notification, by_bus_off: bool) -> Tally {
-    let mut next = tally;
-    let kind = n.kind;
-    if kind == CONFIRMED {
-        next.confirmed = more(tally.confirmed);
-    }
-    if kind == RECEIVED {
-        next.received = more(tally.received);
-    }
-    if kind == CANCELLED {
-        if by_bus_off {
-            next.taken = more(tally.taken);
-        } else {
-            next.cancelled = more(tally.cancelled);
-        }
-    }
-    next
+// Whether a notification closes a write.
+pub fn closes(n: Notification) -> bool {
+    (n.kind == CONFIRMED) | (n.kind == CANCELLED)
 }
 
-// Whether a bus-off took the frame.
-pub fn is_taken(n: Notification, by_bus_off: bool) -> bool {
-    (n.kind == CANCELLED) & by_bus_off
+// Which of the three ways to close a write it is: a stop cancels a frame, a bus-off takes it.
+fn closing_place(n: Notification, by_bus_off: bool) -> usize {
+    if n.kind == CONFIRMED {
+        return 0;
+    }
+    if by_bus_off { 2 } else { 1 }
 }
-
-// Where an entry begins under its call.
-const INDENT: [u8; 10] = *b"          ";
 
 // The frame of an object that is confirmed or cancelled.
-fn sent_frame(
+fn closed(
     out: &mut [u8],
     at: usize,
-    word: &[u8],
+    book: &[u64],
     ram: &[u8],
-    origins: [u64; OBJECTS],
     n: Notification,
+    by_bus_off: bool,
 ) -> usize {
-    let identifier = identifier_in(ram, n.place);
-    let line = origin(origins, n.place);
-    let data = can::data_of(ram, n.place);
-    let end = put(out, at, word);
-    whole(
-        out,
-        end,
-        n.place,
-        n.second,
-        identifier,
-        b"written at line ",
-        line,
-        data,
-    )
+    let texts = b"confirmed          |cancelled by stop  |taken by bus-off   ";
+    let mut end = put(out, at, piece(texts, closing_place(n, by_bus_off)));
+    end = written(out, end, book, ram, n.place, n.second as u64);
+    data(out, end, ram, n.place)
 }
 
 // The frame of an object that was received.
-fn received_frame(
-    out: &mut [u8],
-    at: usize,
-    ram: &[u8],
-    origins: [u64; OBJECTS],
-    n: Notification,
-) -> usize {
-    let line = origin(origins, n.place);
-    let data = can::data_of(ram, n.place);
-    let end = put(out, at, b"received           ");
-    whole(
-        out,
-        end,
-        n.place,
-        0,
-        n.second,
-        b"arrived at line ",
-        line,
-        data,
-    )
+fn received(out: &mut [u8], at: usize, book: &[u64], ram: &[u8], n: Notification) -> usize {
+    let numbers: [u64; NUMBERS] = [n.place as u64, n.second as u64, origin(book, n.place), 0, 0];
+    let text = b"received           object %2  id %Iarrived at line %l";
+    let end = say(out, at, text, numbers);
+    data(out, end, ram, n.place)
 }
 
-fn mode_changed(out: &mut [u8], at: usize, controller: u32, to: u32) -> usize {
-    let mut end = numbered(out, at, b"controller ", controller as u64);
-    end = put(out, end, b" is now ");
-    end = mode(out, end, to);
-    put(out, end, b"\n")
+// The place of AUTOSAR's name of a development error in the table below.
+fn error_place(error: u32) -> usize {
+    match error {
+        2 => 0,
+        3 => 1,
+        4 => 2,
+        5 => 3,
+        6 => 4,
+        9 => 5,
+        _ => 6,
+    }
 }
 
-fn off_bus(out: &mut [u8], at: usize, controller: u32) -> usize {
-    let end = numbered(out, at, b"controller ", controller as u64);
-    put(out, end, b" went off the bus and is now STOPPED\n")
-}
-
-// AUTOSAR's name of a development error, by its number.
-fn error_name(out: &mut [u8], at: usize, error: u32) -> usize {
-    let texts = b"?|\
-        ?|\
-        CAN_E_PARAM_HANDLE|\
-        CAN_E_PARAM_DATA_LENGTH|\
-        CAN_E_PARAM_CONTROLLER|\
-        CAN_E_UNINIT|\
-        CAN_E_TRANSITION|\
-        ?|\
-        ?|\
-        CAN_E_INIT_FAILED";
-    put(out, at, piece(texts, error as usize))
-}
-
-// The place of a service in the table below.
+// The place of AUTOSAR's name of a service.
 fn service_place(service: u32) -> usize {
     match service {
         0 => 0,
@@ -167,77 +109,54 @@ fn service_place(service: u32) -> usize {
     }
 }
 
-// AUTOSAR's name of a service.
-fn service_name(out: &mut [u8], at: usize, service: u32) -> usize {
-    let texts = b"Init|SetControllerMode|Write|DeInit|GetControllerMode|another service";
-    put(out, at, piece(texts, service_place(service)))
-}
-
 fn development_error(out: &mut [u8], at: usize, service: u32, error: u32) -> usize {
-    let mut end = numbered(out, at, b"development error ", error as u64);
-    end = put(out, end, b" ");
-    end = error_name(out, end, error);
+    let errors =
+        b"CAN_E_PARAM_HANDLE|CAN_E_PARAM_DATA_LENGTH|CAN_E_PARAM_CONTROLLER|CAN_E_UNINIT|CAN_E_TRANSITION|CAN_E_INIT_FAILED|?";
+    let services = b"Init|SetControllerMode|Write|DeInit|GetControllerMode|another service";
+    let numbers: [u64; NUMBERS] = [error as u64, 0, 0, 0, 0];
+    let mut end = say(out, at, b"development error %0 ", numbers);
+    end = put(out, end, piece(errors, error_place(error)));
     end = put(out, end, b" of ");
-    end = service_name(out, end, service);
+    end = put(out, end, piece(services, service_place(service)));
     put(out, end, b"\n")
 }
 
-fn data_lost(out: &mut [u8], at: usize, object: u32) -> usize {
-    let end = numbered(out, at, b"data lost: object ", object as u64);
-    put(out, end, b" is full\n")
-}
-
-// A cancelled frame: a stop cancels it, a bus-off takes it.
-fn cancelled(
-    out: &mut [u8],
-    at: usize,
-    ram: &[u8],
-    origins: [u64; OBJECTS],
-    n: Notification,
-    by_bus_off: bool,
-) -> usize {
-    if by_bus_off {
-        return sent_frame(out, at, b"taken by bus-off   ", ram, origins, n);
+// The place of a change of a controller, or of lost data, in the table below.
+fn change_place(kind: u32) -> usize {
+    match kind {
+        MODE => 0,
+        BUS_OFF => 1,
+        DATA_LOST => 2,
+        _ => 3,
     }
-    sent_frame(out, at, b"cancelled by stop  ", ram, origins, n)
 }
 
-// One notification in words, as a line under its call.
+fn changed(out: &mut [u8], at: usize, n: Notification) -> usize {
+    let texts = b"controller %0 is now %m\n|\
+        controller %0 went off the bus and is now STOPPED\n|\
+        data lost: object %0 is full\n|\
+        unknown notification\n";
+    let numbers: [u64; NUMBERS] = [n.place as u64, n.second as u64, 0, 0, 0];
+    say(out, at, piece(texts, change_place(n.kind)), numbers)
+}
+
+// One notification, indented.
 pub fn told(
     out: &mut [u8],
     at: usize,
+    book: &[u64],
     ram: &[u8],
-    origins: [u64; OBJECTS],
     n: Notification,
     by_bus_off: bool,
 ) -> usize {
-    let end = put(out, at, &INDENT);
+    let end = put(out, at, b"          ");
+    if closes(n) {
+        return closed(out, end, book, ram, n, by_bus_off);
+    }
     let kind = n.kind;
     match kind {
-        CONFIRMED => sent_frame(out, end, b"confirmed          ", ram, origins, n),
-        RECEIVED => received_frame(out, end, ram, origins, n),
-        MODE => mode_changed(out, end, n.place, n.second),
-        BUS_OFF => off_bus(out, end, n.place),
+        RECEIVED => received(out, end, book, ram, n),
         DEVELOPMENT_ERROR => development_error(out, end, n.place, n.second),
-        DATA_LOST => data_lost(out, end, n.place),
-        CANCELLED => cancelled(out, end, ram, origins, n, by_bus_off),
-        _ => put(out, end, b"unknown notification\n"),
+        _ => changed(out, end, n),
     }
-}
-
-// The most bytes that an entry of the list takes.
-pub const ENTRY: usize = 512;
-
-// The entry of a frame that a bus-off took: the line of the poll, and the whole frame.
-pub fn listed(
-    taken: &mut [u8],
-    at: usize,
-    ram: &[u8],
-    origins: [u64; OBJECTS],
-    n: Notification,
-    line: u64,
-) -> usize {
-    let mut end = put(taken, at, b"  poll at line ");
-    end = right(taken, end, line, 6);
-    sent_frame(taken, end, b"  ", ram, origins, n)
 }

@@ -1,8 +1,8 @@
 // An object's bytes.
-use crate::print::numbered;
+use crate::say::NUMBERS;
+use crate::say::say;
 use bench_text::put::put;
 use bench_text::put::put_hex;
-use bench_text::put::put_hexadecimal;
 use can::OBJECT_SIZE;
 use can::OBJECTS;
 use can::RAM_SIZE;
@@ -24,36 +24,25 @@ pub fn bytes(memory: &[u8], object: u32) -> &[u8] {
     &memory[start..end]
 }
 
-// A byte as a number with a word before it.
-fn byte(out: &mut [u8], at: usize, word: &[u8], b: u8) -> usize {
-    numbered(out, at, word, b as u64)
+// A byte as a wider number.
+fn wide(b: u8) -> u64 {
+    b as u64
 }
 
-// What the bytes before the data say: identifier word, wire length, DLC code and handle.
-fn head(out: &mut [u8], at: usize, object: &[u8]) -> usize {
-    if object.len() < HEAD_SIZE {
-        return put(out, at, b"none");
-    }
-    let mut end = put(out, at, b"identifier word ");
-    end = put_hexadecimal(out, end, number_4(object, 0) as u64, 8);
-    end = byte(out, end, b", wire length ", object[4]);
-    end = byte(out, end, b", DLC ", object[5]);
-    numbered(out, end, b", handle ", number_2(object, 6) as u64)
-}
-
-fn data(out: &mut [u8], at: usize, object: &[u8]) -> usize {
-    if object.len() < HEAD_SIZE {
-        return at;
-    }
-    let end = put(out, at, b"data ");
-    put_hex(out, end, &object[HEAD_SIZE..])
-}
-
-// An object in words.
+// An object in words: what the bytes before the data say, then the data.
 pub fn shown(out: &mut [u8], at: usize, object: &[u8]) -> usize {
-    let mut end = put(out, at, b"          ");
-    end = head(out, end, object);
-    end = put(out, end, b"\n          ");
-    end = data(out, end, object);
+    if object.len() < HEAD_SIZE {
+        return put(out, at, b"          none\n");
+    }
+    let numbers: [u64; NUMBERS] = [
+        number_4(object, 0) as u64,
+        wide(object[4]),
+        wide(object[5]),
+        number_2(object, 6) as u64,
+        0,
+    ];
+    let text = b"          identifier word %H, wire length %0, DLC %0, handle %0\n          data ";
+    let mut end = say(out, at, text, numbers);
+    end = put_hex(out, end, &object[HEAD_SIZE..]);
     put(out, end, b"\n")
 }

@@ -4,10 +4,10 @@ use crate::asked;
 use crate::night::Night;
 use crate::object;
 use crate::print::hex_or_none;
-use crate::print::numbered;
-use crate::print::right;
 use crate::print::to_column;
 use crate::refused;
+use crate::say::say;
+use crate::say::two;
 use crate::state;
 use crate::suspect;
 use crate::trouble::expected;
@@ -23,38 +23,52 @@ use can_calls::perform::Played;
 // The column at which answers begin.
 const ANSWER: usize = 66;
 
-// The line's number.
-fn begun(out: &mut [u8], at: usize, line: u64) -> usize {
-    let end = right(out, at, line, 6);
-    put(out, end, b"  ")
+// A line's number, and a text with a number.
+fn begun(out: &mut [u8], at: usize, line: u64, text: &[u8], n: u64) -> usize {
+    say(out, at, text, two(line, n))
 }
 
-// A call with its answer; the night is as it was before the call.
-pub fn call(out: &mut [u8], at: usize, night: Night, wanted: Wanted, played: Played) -> usize {
-    let mut end = begun(out, at, night.line);
-    end = asked::call(out, end, wanted);
-    end = to_column(out, end, at, ANSWER);
+// What came of a call; the night is as it was before it.
+fn replied(
+    out: &mut [u8],
+    at: usize,
+    night: Night,
+    book: &[u64],
+    wanted: Wanted,
+    bytes: &[u8],
+    played: Played,
+) -> usize {
     let verdict = played.verdict;
-    let replied = played.answer;
     let next = played.state;
     let request = wanted.request;
     let function = request.function;
+    let answer = played.answer;
     match verdict {
-        Verdict::Accepted => {
-            end = answer::call(out, end, function, replied, next, played.notifications);
-            put(out, end, b"\n")
-        }
-        Verdict::Rejected(reason) => {
-            end = refused::call(out, end, night, wanted, reason);
-            put(out, end, b"\n")
-        }
+        Verdict::Accepted => answer::call(out, at, function, answer, next, played.notifications),
+        Verdict::Rejected(reason) => refused::call(out, at, night, book, wanted, bytes, reason),
     }
+}
+
+// A call with its answer; bytes are those that it was given.
+pub fn call(
+    out: &mut [u8],
+    at: usize,
+    night: Night,
+    book: &[u64],
+    wanted: Wanted,
+    bytes: &[u8],
+    played: Played,
+) -> usize {
+    let mut end = begun(out, at, night.line, b"%6  ", 0);
+    end = asked::call(out, end, wanted);
+    end = to_column(out, end, at, ANSWER);
+    end = replied(out, end, night, book, wanted, bytes, played);
+    put(out, end, b"\n")
 }
 
 // Data of an object.
 pub fn data(out: &mut [u8], at: usize, line: u64, object: u32, data: &[u8]) -> usize {
-    let mut end = begun(out, at, line);
-    end = numbered(out, end, b"data of object ", object as u64);
+    let mut end = begun(out, at, line, b"%6  data of object %0", object as u64);
     end = to_column(out, end, at, ANSWER);
     end = hex_or_none(out, end, data);
     put(out, end, b"\n")
@@ -62,8 +76,7 @@ pub fn data(out: &mut [u8], at: usize, line: u64, object: u32, data: &[u8]) -> u
 
 // All bytes of an object.
 pub fn show(out: &mut [u8], at: usize, line: u64, object: u32, bytes: &[u8]) -> usize {
-    let mut end = begun(out, at, line);
-    end = numbered(out, end, b"show object ", object as u64);
+    let mut end = begun(out, at, line, b"%6  show object %0", object as u64);
     if bytes.len() == 0 {
         end = to_column(out, end, at, ANSWER);
         return put(out, end, b"there is no such object\n");
@@ -74,20 +87,12 @@ pub fn show(out: &mut [u8], at: usize, line: u64, object: u32, bytes: &[u8]) -> 
 
 // The driver state.
 pub fn state(out: &mut [u8], at: usize, line: u64, state: State) -> usize {
-    let mut end = begun(out, at, line);
-    end = put(out, end, b"state");
+    let mut end = begun(out, at, line, b"%6  state", 0);
     end = to_column(out, end, at, ANSWER);
     end = state::counts(out, end, state);
     end = put(out, end, b"\n");
     end = state::controllers(out, end, state);
     state::objects(out, end, state)
-}
-
-// A length that is lent from here on.
-pub fn lent(out: &mut [u8], at: usize, line: u64, word: &[u8], n: u32, unit: &[u8]) -> usize {
-    let mut end = begun(out, at, line);
-    end = numbered(out, end, word, n as u64);
-    put(out, end, unit)
 }
 
 // What is wrong with which word, and what may have been meant.
@@ -106,8 +111,7 @@ pub fn unreadable(
     name: Name,
     line: &[u8],
 ) -> usize {
-    let mut end = begun(out, at, number);
-    end = put(out, end, b"not understood: ");
+    let mut end = begun(out, at, number, b"%6  not understood: ", 0);
     end = wrong(out, end, trouble, name, line);
     end = put(out, end, b"; expected ");
     end = expected(out, end, trouble, name);

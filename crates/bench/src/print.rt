@@ -2,7 +2,11 @@
 use bench_text::put::put;
 use bench_text::put::put_decimal;
 use bench_text::put::put_hex;
+use bench_text::put::put_hexadecimal;
 use bench_text::put::put_repeated;
+use bench_words::piece::piece;
+use can_frame::identifier::is_extended;
+use can_frame::identifier::is_fd;
 
 // A number with a word before it.
 pub fn numbered(out: &mut [u8], at: usize, word: &[u8], n: u64) -> usize {
@@ -44,6 +48,17 @@ pub fn right(out: &mut [u8], at: usize, n: u64, width: usize) -> usize {
     put_decimal(out, end, n)
 }
 
+// The width of a column for the number of a line, and of one for an identifier with its marks.
+const LINE_WIDTH: usize = 9;
+
+const IDENTIFIER_WIDTH: usize = 23;
+
+// A number at the left of its column.
+pub fn left(out: &mut [u8], at: usize, n: u64) -> usize {
+    let end = put_decimal(out, at, n);
+    to_column(out, end, at, LINE_WIDTH)
+}
+
 // One, or several of something: the word with an s, but for one.
 pub fn count_of(out: &mut [u8], at: usize, n: u64, word: &[u8]) -> usize {
     let mut end = put_decimal(out, at, n);
@@ -52,4 +67,45 @@ pub fn count_of(out: &mut [u8], at: usize, n: u64, word: &[u8]) -> usize {
         return end;
     }
     put(out, end, b"s")
+}
+
+// How many modes have a name.
+const MODES: u64 = 4;
+
+// A mode by its name.
+pub fn mode(out: &mut [u8], at: usize, mode: u64) -> usize {
+    if mode < MODES {
+        return put(
+            out,
+            at,
+            piece(b"UNINIT|STARTED|STOPPED|SLEEP", mode as usize),
+        );
+    }
+    numbered(out, at, b"mode ", mode)
+}
+
+// The place in the table below of what the marks of an identifier say.
+fn marks(identifier: u32) -> usize {
+    let extended = is_extended(identifier);
+    let fd = is_fd(identifier);
+    if extended & fd {
+        return 3;
+    }
+    if extended {
+        return 2;
+    }
+    fd as usize
+}
+
+// An identifier as it is typed, with at least three digits, and what its marks say in words.
+pub fn identifier(out: &mut [u8], at: usize, n: u64) -> usize {
+    let word = (n % 0x100000000) as u32;
+    let end = put_hexadecimal(out, at, n, 3);
+    put(out, end, piece(b"| FD| extended| extended FD", marks(word)))
+}
+
+// The same in its column.
+pub fn identifier_column(out: &mut [u8], at: usize, n: u64) -> usize {
+    let end = identifier(out, at, n);
+    to_column(out, end, at, IDENTIFIER_WIDTH)
 }

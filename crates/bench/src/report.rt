@@ -1,6 +1,8 @@
 // What goes wrong with a whole night, in one line on standard error. `play` reads these lines, too.
-use crate::night::Tally;
-use crate::print::numbered;
+use crate::night::Night;
+use crate::say::one;
+use crate::say::say;
+use crate::say::three;
 use bench_lines::count::of_bytes;
 use bench_text::put::put;
 use libc::STDERR_FILENO;
@@ -18,25 +20,26 @@ pub fn stopped(trouble: &[u8], lines: u64) {
     let mut text = [0u8; ROOM];
     let mut end = put(&mut text, 0, b"bench: ");
     end = put(&mut text, end, trouble);
-    end = numbered(&mut text, end, b"; the night was stopped at line ", lines);
-    end = put(&mut text, end, b"\n");
+    end = say(
+        &mut text,
+        end,
+        b"; the night was stopped at line %0\n",
+        one(lines),
+    );
     said(&text, end);
 }
 
 // Some lines were not understood.
-pub fn misunderstood(tally: Tally, lines: u64) {
-    if tally.unreadable == 0 {
+pub fn misunderstood(night: Night, lines: u64) {
+    if night.unreadable == 0 {
         return;
     }
     let mut text = [0u8; ROOM];
-    let mut end = numbered(&mut text, 0, b"bench: ", tally.unreadable);
-    end = numbered(&mut text, end, b" of ", lines);
-    end = numbered(
+    let end = say(
         &mut text,
-        end,
-        b" lines not understood, first at line ",
-        tally.first_unreadable,
+        0,
+        b"bench: %0 of %0 lines not understood, first at line %0\n",
+        three(night.unreadable, lines, night.first_unreadable),
     );
-    end = put(&mut text, end, b"\n");
     said(&text, end);
 }

@@ -1,10 +1,10 @@
 // The driver state in words.
-use crate::frames::mode;
-use crate::print::count_of;
-use crate::print::numbered;
-use crate::print::right;
+use crate::say::NUMBERS;
+use crate::say::say;
+use crate::say::three;
+use crate::say::two;
 use bench_text::put::put;
-use bench_text::put::put_hexadecimal;
+use bench_words::piece::piece;
 use can::State;
 use can_state::settings::Settings;
 use core_places::controller::Controller;
@@ -12,96 +12,77 @@ use core_places::mailbox::Mailbox;
 use core_places::owner::Owner;
 use core_places::range::limited;
 
-// How many controllers and objects are configured.
-pub fn in_use(out: &mut [u8], at: usize, controllers: usize, objects: usize) -> usize {
-    let mut end = count_of(out, at, controllers as u64, b" controller");
-    end = put(out, end, b", ");
-    count_of(out, end, objects as u64, b" object")
-}
-
 // Whether the driver is initialised, and how much is configured.
 pub fn counts(out: &mut [u8], at: usize, state: State) -> usize {
-    if !state.initialised {
-        return put(out, at, b"not initialised");
-    }
-    let end = put(out, at, b"initialised: ");
-    in_use(out, end, state.controller_count, state.object_count)
+    let text = piece(
+        b"not initialised|initialised: %c, %o",
+        state.initialised as usize,
+    );
+    let numbers = two(state.controller_count as u64, state.object_count as u64);
+    say(out, at, text, numbers)
 }
 
-fn request(out: &mut [u8], at: usize, asked: u8) -> usize {
-    if asked == 0 {
-        return at;
+// Whether a mode is asked for, and whether the controller is off the bus.
+fn controller_place(k: Controller) -> usize {
+    let asked = k.requested_mode != 0;
+    if k.bus_off {
+        return if asked { 3 } else { 2 };
     }
-    let end = put(out, at, b", asked for ");
-    mode(out, end, asked as u32)
-}
-
-fn mark(out: &mut [u8], at: usize, bus_off: bool) -> usize {
-    if bus_off {
-        return put(out, at, b", off the bus\n");
-    }
-    put(out, at, b"\n")
+    asked as usize
 }
 
 fn controller(out: &mut [u8], at: usize, c: usize, k: Controller) -> usize {
-    let mut end = put(out, at, b"          controller ");
-    end = right(out, end, c as u64, 2);
-    end = put(out, end, b"  ");
-    end = mode(out, end, k.mode as u32);
-    end = request(out, end, k.requested_mode);
-    mark(out, end, k.bus_off)
+    let texts = b"controller %2  %m\n|\
+        controller %2  %m, asked for %m\n|\
+        controller %2  %m, off the bus\n|\
+        controller %2  %m, asked for %m, off the bus\n";
+    let numbers = three(c as u64, k.mode as u64, k.requested_mode as u64);
+    let end = put(out, at, b"          ");
+    say(out, end, piece(texts, controller_place(k)), numbers)
 }
 
-// The frame that a sending object holds.
-fn sending(out: &mut [u8], at: usize, m: Mailbox) -> usize {
-    if m.tx_done {
-        return put(out, at, b": sent, not yet confirmed\n");
-    }
-    if m.tx_pending {
-        return put(out, at, b": waits to be sent\n");
-    }
-    put(out, at, b": free\n")
-}
-
-fn receiving(out: &mut [u8], at: usize, m: Mailbox) -> usize {
-    if m.rx_full {
-        return put(out, at, b": full\n");
-    }
-    put(out, at, b": empty\n")
-}
-
-// A sending object: its padding value, and what it holds.
-fn sends(out: &mut [u8], at: usize, s: Settings, m: Mailbox) -> usize {
-    let mut end = put(out, at, b" padding ");
-    end = put_hexadecimal(out, end, s.padding as u64, 2);
-    sending(out, end, m)
-}
-
-// A receiving object: its filter, and what it holds.
-fn receives(out: &mut [u8], at: usize, s: Settings, m: Mailbox) -> usize {
-    let mut end = put(out, at, b" code ");
-    end = put_hexadecimal(out, end, s.code as u64, 3);
-    end = put(out, end, b" mask ");
-    end = put_hexadecimal(out, end, s.mask as u64, 3);
-    receiving(out, end, m)
-}
-
-// Whose it is, and how much it takes.
-fn configured(out: &mut [u8], at: usize, kind: &[u8], controller: u8, payload: u8) -> usize {
-    let mut end = put(out, at, kind);
-    end = numbered(out, end, b" controller ", controller as u64);
-    numbered(out, end, b" payload ", payload as u64)
-}
-
-fn object(out: &mut [u8], at: usize, h: usize, o: Owner, m: Mailbox, s: Settings) -> usize {
-    let mut end = put(out, at, b"          object     ");
-    end = right(out, end, h as u64, 2);
+// What an object holds.
+fn content_place(o: Owner, m: Mailbox) -> usize {
     if o.receiving {
-        end = configured(out, end, b"  receive", o.controller, s.payload);
-        return receives(out, end, s, m);
+        return if m.rx_full { 4 } else { 3 };
     }
-    end = configured(out, end, b"  send", o.controller, s.payload);
-    sends(out, end, s, m)
+    if m.tx_done {
+        return 2;
+    }
+    m.tx_pending as usize
+}
+
+fn content(out: &mut [u8], at: usize, o: Owner, m: Mailbox) -> usize {
+    let texts = b": free\n|\
+        : waits to be sent\n|\
+        : sent, not yet confirmed\n|\
+        : empty\n|\
+        : full\n";
+    put(out, at, piece(texts, content_place(o, m)))
+}
+
+// What is configured of a sending object, and of a receiving one.
+fn numbers(h: usize, o: Owner, s: Settings) -> [u64; NUMBERS] {
+    let owner = o.controller as u64;
+    let payload = s.payload as u64;
+    if o.receiving {
+        return [h as u64, owner, payload, s.code as u64, s.mask as u64];
+    }
+    [h as u64, owner, payload, s.padding as u64, 0]
+}
+
+// An object as the configuration in words has it, and what it holds.
+fn object(out: &mut [u8], at: usize, h: usize, o: Owner, m: Mailbox, s: Settings) -> usize {
+    let texts = b"object     %2  send controller %0 payload %0 padding %h|\
+        object     %2  receive controller %0 payload %0 code %x mask %x";
+    let mut end = put(out, at, b"          ");
+    end = say(
+        out,
+        end,
+        piece(texts, o.receiving as usize),
+        numbers(h, o, s),
+    );
+    content(out, end, o, m)
 }
 
 // The object at a place, with its settings and what it holds.

@@ -1,78 +1,120 @@
-// The end of a night in plain words.
-use crate::night::Tally;
-use crate::print::numbered;
-use crate::print::right;
+// The end of a night in plain words: what became of its frames, in all and, where there is more than one, for each controller.
+use crate::book;
+use crate::book::counted;
+use crate::book::total;
+use crate::night::Night;
+use crate::say::one;
+use crate::say::say;
 use bench_text::put::put;
-use can::OBJECTS;
-use can::State;
+use bench_words::piece::piece;
+use can::CONTROLLERS;
+use core_places::range::limited;
 
-// How many objects have a flag.
-fn flagged(flags: [bool; OBJECTS]) -> u64 {
-    let mut count: u64 = 0;
-    for h in 0..OBJECTS {
-        count = std::num::wrapping_add_u64(count, flags[h] as u64);
+// The columns of the controllers; none where there is only one.
+fn columns(book: &[u64]) -> usize {
+    let n = book::controllers(book) as usize;
+    if n < 2 {
+        return 0;
     }
-    count
+    limited(n, CONTROLLERS)
 }
 
-// How many frames wait to be sent or confirmed.
-pub fn waiting(state: State) -> u64 {
-    let flags = state.pendings;
-    flagged(flags)
+// A heading for each controller.
+fn headings(out: &mut [u8], at: usize, columns: usize) -> usize {
+    let mut end = at;
+    for c in 0..columns {
+        end = say(out, end, b"  controller %0", one(c as u64));
+    }
+    end
 }
 
-// How many received frames nobody has read.
-pub fn unread(state: State) -> u64 {
-    let flags = state.fulls;
-    flagged(flags)
+// What each controller's frames came to.
+fn cells(out: &mut [u8], at: usize, book: &[u64], what: usize, columns: usize) -> usize {
+    let mut end = at;
+    for c in 0..columns {
+        end = say(out, end, b"      %8", one(counted(book, c, what)));
+    }
+    end
 }
 
-fn counted(out: &mut [u8], at: usize, word: &[u8], n: u64) -> usize {
-    let mut end = put(out, at, word);
-    end = right(out, end, n, 8);
+// One line of the table.
+fn row(out: &mut [u8], at: usize, book: &[u64], what: usize) -> usize {
+    let texts = b"frames written       %8|\
+        confirmed            %8|\
+        cancelled by a stop  %8|\
+        taken by a bus-off   %8|\
+        still waiting        %8|\
+        frames arrived       %8|\
+        read                 %8|\
+        still unread         %8|\
+        dropped by DeInit    %8|\
+        lost                 %8|\
+        unwanted             %8";
+    let mut end = put(out, at, b"  ");
+    end = say(out, end, piece(texts, what), one(total(book, what)));
+    end = cells(out, end, book, what, columns(book));
     put(out, end, b"\n")
 }
 
-// What became of the frames that were written.
-fn sent(out: &mut [u8], at: usize, tally: Tally, state: State) -> usize {
-    let mut end = counted(out, at, b"  frames written       ", tally.written);
-    end = counted(out, end, b"  confirmed            ", tally.confirmed);
-    end = counted(out, end, b"  cancelled by a stop  ", tally.cancelled);
-    end = counted(out, end, b"  taken by a bus-off   ", tally.taken);
-    counted(out, end, b"  still waiting        ", waiting(state))
+// How many lines the table has.
+const ROWS: usize = 11;
+
+fn rows(out: &mut [u8], at: usize, book: &[u64]) -> usize {
+    let mut end = at;
+    for what in 0..ROWS {
+        end = row(out, end, book, what);
+    }
+    end
 }
 
-// What became of the frames that arrived.
-fn received(out: &mut [u8], at: usize, tally: Tally, state: State) -> usize {
-    let mut end = counted(out, at, b"  frames arrived       ", tally.arrived);
-    end = counted(out, end, b"  read                 ", tally.received);
-    end = counted(out, end, b"  still unread         ", unread(state));
-    end = counted(out, end, b"  dropped by DeInit    ", tally.dropped);
-    end = counted(out, end, b"  lost                 ", tally.lost);
-    counted(out, end, b"  unwanted             ", tally.unwanted)
+// The heading of the table.
+fn heading(out: &mut [u8], at: usize, book: &[u64]) -> usize {
+    let columns = columns(book);
+    if columns == 0 {
+        return put(out, at, b"\nAt the end of the night\n");
+    }
+    let mut end = put(out, at, b"\nAt the end of the night     all");
+    end = headings(out, end, columns);
+    put(out, end, b"\n")
 }
 
 // The totals of a night.
-pub fn totals(out: &mut [u8], at: usize, tally: Tally, state: State) -> usize {
-    let mut end = put(out, at, b"\nAt the end of the night\n");
-    end = sent(out, end, tally, state);
-    end = received(out, end, tally, state);
-    counted(out, end, b"  lines not understood ", tally.unreadable)
+pub fn totals(out: &mut [u8], at: usize, book: &[u64], night: Night) -> usize {
+    let mut end = heading(out, at, book);
+    end = rows(out, end, book);
+    say(
+        out,
+        end,
+        b"  lines not understood %8\n",
+        one(night.unreadable),
+    )
 }
 
 // The heading of the list of frames that a bus-off took.
-pub fn heading(out: &mut [u8], at: usize, tally: Tally) -> usize {
-    if tally.taken == 0 {
+pub fn taken_heading(out: &mut [u8], at: usize, book: &[u64]) -> usize {
+    if total(book, book::TAKEN) == 0 {
         return put(out, at, b"\nTaken by bus-off: no frame\n");
     }
     put(out, at, b"\nTaken by bus-off\n")
 }
 
-// Frames that the list had no room for.
-pub fn unlisted(out: &mut [u8], at: usize, tally: Tally) -> usize {
-    if tally.unlisted == 0 {
+// The heading of the list of frames that a stop cancelled, where there are any.
+pub fn cancelled_heading(out: &mut [u8], at: usize, book: &[u64]) -> usize {
+    if total(book, book::CANCELLED) == 0 {
         return at;
     }
-    let end = numbered(out, at, b"  and ", tally.unlisted);
-    put(out, end, b" more, each shown under its poll above\n")
+    put(out, at, b"\nCancelled by a stop\n")
+}
+
+// Frames that a list had no room for.
+pub fn unlisted(out: &mut [u8], at: usize, n: u64) -> usize {
+    if n == 0 {
+        return at;
+    }
+    say(
+        out,
+        at,
+        b"  and %0 more, each shown under its poll above\n",
+        one(n),
+    )
 }

@@ -1,51 +1,114 @@
 // The word that is wrong with a line that was not understood, so that it can be found in the script, and what may have been meant.
 use crate::print::hex_or_none;
 use bench_lines::count::of_bytes;
+use bench_script::command::LARGEST_BYTE;
 use bench_script::name::Name;
 use bench_text::put::put;
+use bench_words::digit::all_digits;
+use bench_words::identifier::identifier;
 use bench_words::number::number;
 use bench_words::reading::Reading;
 use bench_words::reading::Trouble;
+use bench_words::split::same;
 use bench_words::split::word;
 use bytes::scan::find;
 
-// No line has so many words that count.
-const NONE: usize = 9;
+// No line has so many words.
+const NONE: usize = 8192;
 
 // How much of a word is shown.
 const SHOWN: usize = 24;
 
-// The first number of a line that is none.
-fn bad_number(line: &[u8]) -> usize {
-    let reading = number(word(line, 1));
+// Whether a word says a number that fits a byte.
+fn is_small(word: &[u8]) -> bool {
+    let reading = number(word);
     match reading {
-        Reading::Value(_) => 2,
-        Reading::Unreadable(_) => 1,
+        Reading::Value(n) => n <= LARGEST_BYTE,
+        Reading::Unreadable(_) => false,
     }
 }
 
-// The identifier of a frame.
-fn identifier(name: Name) -> usize {
+fn is_number(word: &[u8]) -> bool {
+    let reading = number(word);
+    match reading {
+        Reading::Value(_) => true,
+        Reading::Unreadable(_) => false,
+    }
+}
+
+fn is_identifier(word: &[u8]) -> bool {
+    let reading = identifier(word);
+    match reading {
+        Reading::Value(_) => true,
+        Reading::Unreadable(_) => false,
+    }
+}
+
+// The first number of a line that is none, or too large.
+fn bad_number(name: Name, line: &[u8]) -> usize {
+    match name {
+        Name::Object => { if is_small(word(line, 3)) { 5 } else { 3 } }
+        Name::Controllers => 1,
+        _ => { if is_number(word(line, 1)) { 2 } else { 1 } }
+    }
+}
+
+// The identifier of a frame, or the first code or mask of an object that is none.
+fn bad_identifier(name: Name, line: &[u8]) -> usize {
     match name {
         Name::Write => 3,
+        Name::Object => { if is_identifier(word(line, 7)) { 9 } else { 7 } }
         _ => 2,
     }
 }
 
-// The bytes, which come last.
-fn last(name: Name) -> usize {
+// Where the bytes of a line begin, and how many words of them are looked at.
+fn first_byte(name: Name) -> usize {
     match name {
         Name::Init => 1,
         Name::Write => 4,
+        Name::Object => 7,
         _ => 3,
     }
 }
 
+const LOOKED_AT: usize = 4096;
+
+// Whether a word is whole bytes.
+fn is_bytes(word: &[u8]) -> bool {
+    all_digits(word, 16) & (word.len() % 2 == 0)
+}
+
+// The first of the words that say bytes which does not.
+fn bad_byte(name: Name, line: &[u8]) -> usize {
+    let first = first_byte(name);
+    for k in 0..LOOKED_AT {
+        let place = std::num::wrapping_add_usize(first, k);
+        if !is_bytes(word(line, place)) {
+            return place;
+        }
+    }
+    first
+}
+
+// The fixed word that another one stands for.
+fn unexpected(line: &[u8]) -> usize {
+    if !same(word(line, 2), b"controller") {
+        return 2;
+    }
+    if !same(word(line, 4), b"payload") {
+        return 4;
+    }
+    if same(word(line, 6), b"code") & same(word(line, 1), b"receive") {
+        return 8;
+    }
+    6
+}
+
 // The first word too many.
-fn too_many(name: Name) -> usize {
+fn too_many(name: Name, line: &[u8]) -> usize {
     match name {
-        Name::Write => 5,
-        Name::Arrived => 4,
+        Name::Object => { if same(word(line, 1), b"send") { 8 } else { 10 } }
         Name::Set => 3,
         Name::DeInit | Name::State => 1,
         _ => 2,
@@ -56,13 +119,21 @@ fn too_many(name: Name) -> usize {
 fn place(trouble: Trouble, name: Name, line: &[u8]) -> usize {
     match trouble {
         Trouble::UnknownCommand => 0,
-        Trouble::WordTooMany => too_many(name),
-        Trouble::NotANumber | Trouble::NumberTooLarge => bad_number(line),
-        Trouble::NotAnIdentifier | Trouble::IdentifierTooLong => identifier(name),
-        Trouble::NotHexDigits | Trouble::OddDigits => last(name),
+        Trouble::WordTooMany => too_many(name, line),
+        Trouble::NotANumber | Trouble::NumberTooLarge | Trouble::ByteTooLarge => bad_number(
+            name,
+            line,
+        ),
+        Trouble::NotAnIdentifier | Trouble::IdentifierTooLong => bad_identifier(name, line),
+        Trouble::NotHexDigits | Trouble::OddDigits => bad_byte(name, line),
+        Trouble::NotOneByte => 7,
+        Trouble::UnexpectedWord => unexpected(line),
         Trouble::NotAMode | Trouble::HandleTooLarge => 2,
-        Trouble::UnknownPoll | Trouble::SheetTooLong | Trouble::MemoryTooLong => 1,
-        Trouble::LineTooLong | Trouble::WordMissing => NONE,
+        Trouble::UnknownPoll
+        | Trouble::SheetTooLong
+        | Trouble::MemoryTooLong
+        | Trouble::UnknownKind => 1,
+        Trouble::LineTooLong | Trouble::WordMissing | Trouble::TooManyObjects => NONE,
     }
 }
 

@@ -5,6 +5,7 @@ use crate::print::hex_or_none;
 use crate::print::numbered;
 use bench_text::put::put;
 use bench_text::put::put_decimal;
+use bench_words::split::between;
 use can::State;
 use can::Verdict;
 use can_calls::answer::Answer;
@@ -13,22 +14,48 @@ use core_places::controller::Controller;
 use core_places::mailbox::Mailbox;
 use core_places::range::limited;
 
-// The name of a call. Not a table of texts, which would be searched for every line of a night.
-fn name(out: &mut [u8], at: usize, function: Function) -> usize {
+// The names of calls, one after the other.
+const NAMES: [u8; 101] =
+    *b" init  deinit  set  get  write  poll-write  poll-read  poll-mode  poll-busoff  sent  busoff  arrived ";
+
+// Where a name begins and where it ends. Not a table that is searched: it is read for every line of a night.
+fn start(function: Function) -> usize {
     match function {
-        Function::Init => put(out, at, b" init "),
-        Function::DeInit => put(out, at, b" deinit "),
-        Function::Set => put(out, at, b" set "),
-        Function::Get => put(out, at, b" get "),
-        Function::Write => put(out, at, b" write "),
-        Function::PollWrite => put(out, at, b" poll-write "),
-        Function::PollRead => put(out, at, b" poll-read "),
-        Function::PollMode => put(out, at, b" poll-mode "),
-        Function::PollBusOff => put(out, at, b" poll-busoff "),
-        Function::Sent => put(out, at, b" sent "),
-        Function::BusOff => put(out, at, b" busoff "),
-        Function::Arrived => put(out, at, b" arrived "),
+        Function::Init => 0,
+        Function::DeInit => 6,
+        Function::Set => 14,
+        Function::Get => 19,
+        Function::Write => 24,
+        Function::PollWrite => 31,
+        Function::PollRead => 43,
+        Function::PollMode => 54,
+        Function::PollBusOff => 65,
+        Function::Sent => 78,
+        Function::BusOff => 84,
+        Function::Arrived => 92,
     }
+}
+
+fn end(function: Function) -> usize {
+    match function {
+        Function::Init => 6,
+        Function::DeInit => 14,
+        Function::Set => 19,
+        Function::Get => 24,
+        Function::Write => 31,
+        Function::PollWrite => 43,
+        Function::PollRead => 54,
+        Function::PollMode => 65,
+        Function::PollBusOff => 78,
+        Function::Sent => 84,
+        Function::BusOff => 92,
+        Function::Arrived => 101,
+    }
+}
+
+// The name of a call.
+fn name(out: &mut [u8], at: usize, function: Function) -> usize {
+    put(out, at, between(&NAMES, start(function), end(function)))
 }
 
 fn answer(out: &mut [u8], at: usize, answer: Answer) -> usize {

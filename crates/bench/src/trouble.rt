@@ -22,6 +22,11 @@ fn place(trouble: Trouble) -> usize {
         Trouble::HandleTooLarge => 12,
         Trouble::SheetTooLong => 13,
         Trouble::MemoryTooLong => 14,
+        Trouble::NotOneByte => 15,
+        Trouble::ByteTooLarge => 16,
+        Trouble::UnexpectedWord => 17,
+        Trouble::UnknownKind => 18,
+        Trouble::TooManyObjects => 19,
     }
 }
 
@@ -41,7 +46,12 @@ pub fn message(out: &mut [u8], at: usize, trouble: Trouble) -> usize {
         unknown poll|\
         handle too large|\
         sheet too long|\
-        memory too long";
+        memory too long|\
+        not one byte|\
+        does not fit a byte|\
+        unexpected word|\
+        unknown kind of object|\
+        too many objects";
     put(out, at, piece(texts, place(trouble)))
 }
 
@@ -62,13 +72,15 @@ fn place_of(name: Name) -> usize {
         Name::Memory => 11,
         Name::Show => 12,
         Name::State => 13,
-        Name::Unknown => 14,
+        Name::Controllers => 14,
+        Name::Object => 15,
+        Name::Unknown => 16,
     }
 }
 
 // The words of a command.
 fn usage(out: &mut [u8], at: usize, name: Name) -> usize {
-    let texts = b"init BYTES|\
+    let texts = b"init BYTES, or init alone|\
         deinit|\
         set CONTROLLER MODE|\
         get CONTROLLER|\
@@ -82,7 +94,9 @@ fn usage(out: &mut [u8], at: usize, name: Name) -> usize {
         memory BYTES|\
         show OBJECT|\
         state|\
-        init, deinit, set, get, write, poll, sent, busoff, arrived, data, sheet, memory, show or state";
+        controllers COUNT|\
+        object send controller C payload P padding XX, or object receive controller C payload P code ID mask ID|\
+        init, controllers, object, deinit, set, get, write, poll, sent, busoff, arrived, data, sheet, memory, show or state";
     put(out, at, piece(texts, place_of(name)))
 }
 
@@ -96,13 +110,18 @@ fn expected_word(out: &mut [u8], at: usize, trouble: Trouble) -> usize {
         at most 4294967295|\
         hex digits, with or without 0x|\
         at most 8 hex digits|\
-        hex digits in pairs, or - for none|\
+        hex digits in pairs, or - alone for none|\
         two hex digits for each byte|\
         STARTED, STOPPED, SLEEP or a number|\
         |\
         at most 65535|\
         at most 4096 words|\
-        at most 16384 bytes";
+        at most 16384 bytes|\
+        two hex digits|\
+        at most 255|\
+        |\
+        send or receive|\
+        at most 255";
     put(out, at, piece(texts, place(trouble)))
 }
 
@@ -115,6 +134,7 @@ pub fn expected(out: &mut [u8], at: usize, trouble: Trouble, name: Name) -> usiz
             name,
         ),
         Trouble::UnknownPoll => usage(out, at, Name::Poll),
+        Trouble::UnexpectedWord => usage(out, at, Name::Object),
         _ => expected_word(out, at, trouble),
     }
 }

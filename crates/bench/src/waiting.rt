@@ -1,60 +1,28 @@
 // The frames that still wait when a night ends: not sent, or sent and not confirmed.
+use crate::book;
+use crate::book::total;
+use crate::frames::data;
 use crate::frames::handle_in;
-use crate::frames::identifier_in;
-use crate::frames::whole;
-use crate::night::Night;
-use crate::night::origin;
-use crate::print::numbered;
-use crate::print::to_column;
-use crate::summary::waiting;
+use crate::frames::sent;
+use crate::frames::written;
+use crate::say::one;
+use crate::say::say;
 use bench_text::put::put;
+use bench_words::piece::piece;
+use can::CONTROLLERS;
 use can::OBJECTS;
 use can::State;
 
-// The width of the column for a controller.
-const CONTROLLER_WIDTH: usize = 29;
-
-// Whether the controller of an object is off the bus, and no poll has told so yet.
-fn is_off(state: State, h: usize) -> bool {
-    if OBJECTS <= h {
-        return false;
-    }
-    let c = state.owners[h] as usize;
-    if c < can::CONTROLLERS {
-        return state.marks[c];
+// Whether a controller is off the bus, and no poll has told so yet.
+fn is_off(state: State, controller: usize) -> bool {
+    if controller < CONTROLLERS {
+        return state.marks[controller];
     }
     false
 }
 
-fn mark(out: &mut [u8], at: usize, off: bool) -> usize {
-    if off {
-        return put(out, at, b", off the bus");
-    }
-    at
-}
-
-// The controller of an object, in its column.
-fn controller(out: &mut [u8], at: usize, state: State, h: usize) -> usize {
-    if OBJECTS <= h {
-        return at;
-    }
-    let mut end = numbered(out, at, b"  controller ", state.owners[h] as u64);
-    end = mark(out, end, is_off(state, h));
-    to_column(out, end, at, CONTROLLER_WIDTH)
-}
-
-// Whether the frame of an object was sent.
-fn fate(out: &mut [u8], at: usize, sent: bool) -> usize {
-    if sent {
-        return put(out, at, b"sent, not confirmed  ");
-    }
-    put(out, at, b"not sent             ")
-}
-
 // The frame of an object, where one waits.
-fn one(out: &mut [u8], at: usize, night: Night, ram: &[u8], h: usize) -> usize {
-    let state = night.state;
-    let origins = night.origins;
+fn one_of(out: &mut [u8], at: usize, state: State, book: &[u64], ram: &[u8], h: usize) -> usize {
     if OBJECTS <= h {
         return at;
     }
@@ -62,34 +30,31 @@ fn one(out: &mut [u8], at: usize, night: Night, ram: &[u8], h: usize) -> usize {
         return at;
     }
     let object = h as u32;
-    let mut end = controller(out, at, state, h);
-    end = fate(out, end, state.dones[h]);
-    whole(
-        out,
-        end,
-        object,
-        handle_in(ram, object),
-        identifier_in(ram, object),
-        b"written at line ",
-        origin(origins, object),
-        can::data_of(ram, object),
-    )
+    let controller = state.owners[h] as usize;
+    let text = piece(
+        b"  controller %0               |  controller %0, off the bus  ",
+        is_off(state, controller) as usize,
+    );
+    let mut end = say(out, at, text, one(controller as u64));
+    end = written(out, end, book, ram, object, handle_in(ram, object));
+    end = sent(out, end, book, object, state.dones[h]);
+    data(out, end, ram, object)
 }
 
 // All of them, by object.
-fn each(out: &mut [u8], at: usize, night: Night, ram: &[u8]) -> usize {
+fn each(out: &mut [u8], at: usize, state: State, book: &[u64], ram: &[u8]) -> usize {
     let mut end = at;
     for h in 0..OBJECTS {
-        end = one(out, end, night, ram, h);
+        end = one_of(out, end, state, book, ram, h);
     }
     end
 }
 
 // The list of them, where there is one.
-pub fn list(out: &mut [u8], at: usize, night: Night, ram: &[u8]) -> usize {
-    if waiting(night.state) == 0 {
+pub fn list(out: &mut [u8], at: usize, state: State, book: &[u64], ram: &[u8]) -> usize {
+    if total(book, book::WAITING) == 0 {
         return at;
     }
     let end = put(out, at, b"\nStill waiting\n");
-    each(out, end, night, ram)
+    each(out, end, state, book, ram)
 }

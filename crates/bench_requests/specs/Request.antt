@@ -1,19 +1,26 @@
 -- The call that each command asks for, as docs/BENCH.md has them: the function, and which word of the line it takes as what.
 use Prim.Native.Nat.{ℕ}
 use Rattle.bench_script.specs.declared.command.Command.{Command}
-use Rattle.bench_script.specs.declared.command.Command.the-variants.{Blank, Init, DeInit, Set, Get, Write, PollWrite, PollRead, PollMode, PollBusOff, Sent, BusOff, Arrived, Data, Sheet, Memory, Show, State, Unreadable}
+use Rattle.bench_script.specs.declared.command.Command.the-variants.{Blank, Init, InitInWords, DeInit, Set, Get, Write, PollWrite, PollRead, PollMode, PollBusOff, Sent, BusOff, Arrived, Data, Sheet, Memory, Show, State, Controllers, Send, Receive, Unreadable}
 use Rattle.can_calls.specs.declared.request.Function.the-variants as functions
 use Rattle.can_calls.specs.declared.request.Request.{Request}
 use Rattle.bench_requests.specs.declared.request.Asks.{Asks}
+use Rattle.bench_requests.specs.declared.request.Asks.the-variants as asks
 use Rattle.bench_requests.specs.declared.request.Asks.the-variants.{Call, Other}
+use Rattle.bench_requests.specs.declared.request.Wanted.{Wanted}
 
 -- a call, and how many bytes its line brings: a configuration, or the data of a frame
 abbrev pub call : Request → ℕ → Asks
 call request bytes = Call (record { request = request; length = bytes })
 
+-- Init, which takes a configuration alone
+abbrev pub init : ℕ → Wanted
+init bytes = record { request = record { function = functions.Init; controller = 0; object = 0; number = 0; identifier = 0 }; length = bytes }
+
 -- the number is the mode asked for or the handle; what a function does not take is 0
 abbrev pub request-of : Command → Asks
-request-of (Init bytes) = call (record { function = functions.Init; controller = 0; object = 0; number = 0; identifier = 0 }) bytes
+request-of (Init bytes) = Call (init bytes)
+request-of InitInWords = asks.InitInWords
 request-of DeInit = call (record { function = functions.DeInit; controller = 0; object = 0; number = 0; identifier = 0 }) 0
 request-of (Set c mode) = call (record { function = functions.Set; controller = c; object = 0; number = mode; identifier = 0 }) 0
 request-of (Get c) = call (record { function = functions.Get; controller = c; object = 0; number = 0; identifier = 0 }) 0
@@ -31,4 +38,7 @@ request-of (Sheet n) = Other
 request-of (Memory n) = Other
 request-of (Show obj) = Other
 request-of State = Other
+request-of (Controllers n) = Other
+request-of (Send c p x) = Other
+request-of (Receive c p code mask) = Other
 request-of (Unreadable trouble) = Other

@@ -13,6 +13,8 @@ pub struct Wanted {
 
 pub enum Asks {
     Call(Wanted),
+    // Init with the configuration in words.
+    InitInWords,
     // No call of the driver.
     Other,
 }
@@ -40,12 +42,29 @@ fn call(
     })
 }
 
+// Init with so many bytes.
+pub fn init(length: u32) -> Wanted
+    ensures { λ r. ⌜ r ≡ requests.init length ⌝ }
+{
+    let request = Request {
+        function: Function::Init,
+        controller: 0,
+        object: 0,
+        number: 0,
+        identifier: 0,
+    };
+    Wanted {
+        request: request,
+        length: length,
+    }
+}
+
 // What a function does not take is 0.
 pub fn request_of(command: Command) -> Asks
     ensures { λ r. ⌜ r ≡ requests.request-of command ⌝ }
 {
     match command {
-        Command::Init { length } => call(Function::Init, 0, 0, 0, 0, length),
+        Command::Init { length } => Asks::Call(init(length)),
         Command::DeInit => call(Function::DeInit, 0, 0, 0, 0, 0),
         Command::Set { controller, mode } => call(Function::Set, controller, 0, mode, 0, 0),
         Command::Get { controller } => call(Function::Get, controller, 0, 0, 0, 0),
@@ -66,12 +85,25 @@ pub fn request_of(command: Command) -> Asks
             identifier,
             length,
         } => call(Function::Arrived, controller, 0, 0, identifier, length),
+        Command::InitInWords => Asks::InitInWords,
         Command::Blank => Asks::Other,
         Command::Data { object: _ } => Asks::Other,
         Command::Sheet { words: _ } => Asks::Other,
         Command::Memory { bytes: _ } => Asks::Other,
         Command::Show { object: _ } => Asks::Other,
         Command::State => Asks::Other,
+        Command::Controllers { count: _ } => Asks::Other,
+        Command::Send {
+            controller: _,
+            payload: _,
+            padding: _,
+        } => Asks::Other,
+        Command::Receive {
+            controller: _,
+            payload: _,
+            code: _,
+            mask: _,
+        } => Asks::Other,
         Command::Unreadable(_) => Asks::Other,
     }
 }

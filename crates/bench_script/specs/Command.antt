@@ -4,39 +4,49 @@ use mathlib.Core.Path.{_≡_}
 use mathlib.Core.Bool.{Bool, not, cond, _&&_}
 use mathlib.Core.List.{List, [], _∷_}
 use lib.ListN.{length}
-use lib.Dec.{eqb, ltb, leb}
+use lib.Dec.{ltb, leb}
 use Rattle.rules.specs.Bytes.{same-bytes, splice}
-use Rattle.bench_words.specs.Split.{word}
-use Rattle.bench_words.specs.Reading.{number-of, limited-to, mode-of, identifier-of, byte-count-of, hex-pairs, longest-line, largest-handle, largest-sheet, largest-memory}
-use Rattle.bench_script.specs.Name.{name-of, is-unknown, argument-count}
+use Rattle.bench_words.specs.Split.{word, is-missing, first, after}
+use Rattle.bench_words.specs.Reading.{number-of, limited-to, mode-of, identifier-of, bytes-of, longest-line, largest-handle, largest-sheet, largest-memory, largest-byte}
+use Rattle.bench_script.specs.Name.{name-of, argument-count, is-open}
+use Rattle.bench_script.specs.Object.{object-of}
+use Rattle.bench_script.specs.With.{with-value}
 use Rattle.bench_script.specs.declared.name.Name.{Name}
 use Rattle.bench_script.specs.declared.name.Name.the-variants as names
-use Rattle.bench_words.specs.declared.reading.Trouble.the-variants.{LineTooLong, UnknownCommand, WordMissing, WordTooMany, UnknownPoll, HandleTooLarge, SheetTooLong, MemoryTooLong}
+use Rattle.bench_words.specs.declared.reading.Trouble.the-variants.{LineTooLong, UnknownCommand, WordMissing, WordTooMany, UnknownPoll, HandleTooLarge, SheetTooLong, MemoryTooLong, ByteTooLarge}
 use Rattle.bench_words.specs.declared.reading.Reading.{Reading}
 use Rattle.bench_words.specs.declared.reading.Reading.the-variants as readings
 use Rattle.bench_script.specs.declared.command.Numbered.{Numbered}
 use Rattle.bench_script.specs.declared.command.Numbered.the-variants as numbered
 use Rattle.bench_script.specs.declared.command.Command.{Command}
-use Rattle.bench_script.specs.declared.command.Command.the-variants.{Blank, Init, DeInit, Set, Get, Write, PollWrite, PollRead, PollMode, PollBusOff, Sent, BusOff, Arrived, Data, Sheet, Memory, Show, State, Unreadable}
+use Rattle.bench_script.specs.declared.command.Command.the-variants.{Blank, Init, InitInWords, DeInit, Set, Get, Write, PollWrite, PollRead, PollMode, PollBusOff, Sent, BusOff, Arrived, Data, Sheet, Memory, Show, State, Controllers, Unreadable}
 
--- what is made of a word's value, or the trouble with the word
-abbrev pub with-value : Reading → (ℕ → Command) → Command
-with-value (readings.Value n) make = make n
-with-value (readings.Unreadable t) make = Unreadable t
+-- what a line says: a command, and the bytes that it brings
+abbrev pub Said : Type 0
+Said = Command × List ℕ
 
-abbrev pub handle-of : List ℕ → Reading
-handle-of w = limited-to largest-handle HandleTooLarge (number-of w)
+abbrev pub silent : Command → Said
+silent command = (command, [])
 
--- init BYTES
-abbrev pub init-of : List ℕ → Command
-init-of line = with-value (byte-count-of (word 1 line)) (λ n. Init n)
+-- what is read on behind a word that says a value, or the trouble with the word
+abbrev pub reading-on : Reading → (ℕ → Said) → Said
+reading-on (readings.Value n) on = on n
+reading-on (readings.Unreadable t) on = silent (Unreadable t)
+
+-- the last words say bytes
+abbrev pub with-bytes : List ℕ → (ℕ → Command) → Said
+with-bytes text make = (with-value (bytes-of text .0) make, bytes-of text .1)
+
+-- init BYTES, or init alone
+abbrev pub init-of : List ℕ → Said
+init-of text = cond (is-missing 0 text) (silent InitInWords) (with-bytes text (λ n. Init n))
 
 -- set C MODE
 abbrev pub set-mode-of : ℕ → List ℕ → Command
-set-mode-of c line = with-value (mode-of (word 2 line)) (λ m. Set c m)
+set-mode-of c text = with-value (mode-of (first text)) (λ m. Set c m)
 
 abbrev pub set-of : List ℕ → Command
-set-of line = with-value (number-of (word 1 line)) (λ c. set-mode-of c line)
+set-of text = with-value (number-of (first text)) (λ c. set-mode-of c (after text))
 
 -- get C, sent OBJ, busoff C, data OBJ, show OBJ
 abbrev pub of-number : Numbered → ℕ → Command
@@ -47,30 +57,30 @@ of-number numbered.Data h = Data h
 of-number numbered.Show h = Show h
 
 abbrev pub with-number : Numbered → List ℕ → Command
-with-number what line = with-value (number-of (word 1 line)) (of-number what)
+with-number what text = with-value (number-of (first text)) (of-number what)
 
 -- write OBJ HANDLE ID BYTES
-abbrev pub write-frame-of : ℕ → ℕ → ℕ → List ℕ → Command
-write-frame-of h p i line = with-value (byte-count-of (word 4 line)) (λ n. Write h p i n)
+abbrev pub write-frame-of : ℕ → ℕ → ℕ → List ℕ → Said
+write-frame-of h p i text = with-bytes text (λ n. Write h p i n)
 
-abbrev pub write-with-of : ℕ → ℕ → List ℕ → Command
-write-with-of h p line = with-value (identifier-of (word 3 line)) (λ i. write-frame-of h p i line)
+abbrev pub write-with-of : ℕ → ℕ → List ℕ → Said
+write-with-of h p text = reading-on (identifier-of (first text)) (λ i. write-frame-of h p i (after text))
 
-abbrev pub write-to-of : ℕ → List ℕ → Command
-write-to-of h line = with-value (handle-of (word 2 line)) (λ p. write-with-of h p line)
+abbrev pub write-to-of : ℕ → List ℕ → Said
+write-to-of h text = reading-on (limited-to largest-handle HandleTooLarge (number-of (first text))) (λ p. write-with-of h p (after text))
 
-abbrev pub write-of : List ℕ → Command
-write-of line = with-value (number-of (word 1 line)) (λ h. write-to-of h line)
+abbrev pub write-of : List ℕ → Said
+write-of text = reading-on (number-of (first text)) (λ h. write-to-of h (after text))
 
 -- arrived C ID BYTES
-abbrev pub arrived-frame-of : ℕ → ℕ → List ℕ → Command
-arrived-frame-of c i line = with-value (byte-count-of (word 3 line)) (λ n. Arrived c i n)
+abbrev pub arrived-frame-of : ℕ → ℕ → List ℕ → Said
+arrived-frame-of c i text = with-bytes text (λ n. Arrived c i n)
 
-abbrev pub arrived-on-of : ℕ → List ℕ → Command
-arrived-on-of c line = with-value (identifier-of (word 2 line)) (λ i. arrived-frame-of c i line)
+abbrev pub arrived-on-of : ℕ → List ℕ → Said
+arrived-on-of c text = reading-on (identifier-of (first text)) (λ i. arrived-frame-of c i (after text))
 
-abbrev pub arrived-of : List ℕ → Command
-arrived-of line = with-value (number-of (word 1 line)) (λ c. arrived-on-of c line)
+abbrev pub arrived-of : List ℕ → Said
+arrived-of text = reading-on (number-of (first text)) (λ c. arrived-on-of c (after text))
 
 -- poll write | read | mode | busoff
 unfoldable pub poll-of : List ℕ → Command
@@ -82,72 +92,55 @@ poll-of w =
 
 -- sheet N, memory N
 abbrev pub sheet-of : List ℕ → Command
-sheet-of line = with-value (limited-to largest-sheet SheetTooLong (number-of (word 1 line))) (λ n. Sheet n)
+sheet-of text = with-value (limited-to largest-sheet SheetTooLong (number-of (first text))) (λ n. Sheet n)
 
 abbrev pub memory-of : List ℕ → Command
-memory-of line = with-value (limited-to largest-memory MemoryTooLong (number-of (word 1 line))) (λ n. Memory n)
+memory-of text = with-value (limited-to largest-memory MemoryTooLong (number-of (first text))) (λ n. Memory n)
+
+-- controllers N
+abbrev pub controllers-of : List ℕ → Command
+controllers-of text = with-value (limited-to largest-byte ByteTooLarge (number-of (first text))) (λ n. Controllers n)
 
 -- the words after a name
-unfoldable pub named : Name → List ℕ → Command
-named names.Init line = init-of line
-named names.DeInit line = DeInit
-named names.Set line = set-of line
-named names.Get line = with-number numbered.Get line
-named names.Write line = write-of line
-named names.Poll line = poll-of (word 1 line)
-named names.Sent line = with-number numbered.Sent line
-named names.BusOff line = with-number numbered.BusOff line
-named names.Arrived line = arrived-of line
-named names.Data line = with-number numbered.Data line
-named names.Sheet line = sheet-of line
-named names.Memory line = memory-of line
-named names.Show line = with-number numbered.Show line
-named names.State line = State
-named names.Unknown line = Unreadable UnknownCommand
+unfoldable pub named : Name → List ℕ → Said
+named names.Init text = init-of text
+named names.DeInit text = silent DeInit
+named names.Set text = silent (set-of text)
+named names.Get text = silent (with-number numbered.Get text)
+named names.Write text = write-of text
+named names.Poll text = silent (poll-of (first text))
+named names.Sent text = silent (with-number numbered.Sent text)
+named names.BusOff text = silent (with-number numbered.BusOff text)
+named names.Arrived text = arrived-of text
+named names.Data text = silent (with-number numbered.Data text)
+named names.Sheet text = silent (sheet-of text)
+named names.Memory text = silent (memory-of text)
+named names.Show text = silent (with-number numbered.Show text)
+named names.State text = silent State
+named names.Controllers text = silent (controllers-of text)
+named names.Object text = silent (object-of text)
+named names.Unknown text = silent (Unreadable UnknownCommand)
 
--- a line may have a word too few or too many: word n of a line is missing where it is empty
-abbrev pub is-missing : ℕ → List ℕ → Bool
-is-missing n line = eqb (length (word n line)) 0
+-- a line may have a word too few or too many
+abbrev pub too-many : Name → List ℕ → ℕ → Bool
+too-many name line n = not (is-open name) && not (is-missing n line)
 
-unfoldable pub counted : Name → List ℕ → Command
+unfoldable pub counted : Name → List ℕ → Said
 counted name line =
-    cond (is-unknown name) (Unreadable UnknownCommand)
-    (cond (is-missing (argument-count name) line) (Unreadable WordMissing)
-    (cond (not (is-missing (argument-count name + 1) line)) (Unreadable WordTooMany) (named name line)))
+    cond (is-missing (argument-count name) line) (silent (Unreadable WordMissing))
+    (cond (too-many name line (argument-count name + 1)) (silent (Unreadable WordTooMany)) (named name (after line)))
 
--- the command that a line says
-unfoldable pub command-of : List ℕ → Command
+-- what a line says
+unfoldable pub command-of : List ℕ → Said
 command-of line =
-    cond (ltb longest-line (length line)) (Unreadable LineTooLong)
-    (cond (is-missing 0 line) Blank (counted (name-of (word 0 line)) line))
+    cond (ltb longest-line (length line)) (silent (Unreadable LineTooLong))
+    (cond (is-missing 0 line) (silent Blank) (counted (name-of (first line)) line))
 
 -- a line that is blank, or a comment alone
 abbrev pub says-nothing : List ℕ → Bool
 says-nothing line = leb (length line) longest-line && is-missing 0 line
 
--- the bytes that a line brings
-unfoldable pub brought : Command → List ℕ → List ℕ
-brought Blank line = []
-brought (Init n) line = hex-pairs (word 1 line)
-brought DeInit line = []
-brought (Set c m) line = []
-brought (Get c) line = []
-brought (Write h p i n) line = hex-pairs (word 4 line)
-brought PollWrite line = []
-brought PollRead line = []
-brought PollMode line = []
-brought PollBusOff line = []
-brought (Sent h) line = []
-brought (BusOff c) line = []
-brought (Arrived c i n) line = hex-pairs (word 3 line)
-brought (Data h) line = []
-brought (Sheet n) line = []
-brought (Memory n) line = []
-brought (Show h) line = []
-brought State line = []
-brought (Unreadable t) line = []
-
 -- what reading a line owes: the command, and its bytes at the start of the buffer; whatever they do not cover keeps its value
-pub record CommandRead (command : Command) (line before after : List ℕ) (r : Command) : Type 0 where
-  pub command-is : r ≡ command
-  pub bytes-are : after ≡ splice 0 (brought r line) before
+pub record CommandRead (said : Said) (before after : List ℕ) (r : Command) : Type 0 where
+  pub command-is : r ≡ said .0
+  pub bytes-are : after ≡ splice 0 (said .1) before

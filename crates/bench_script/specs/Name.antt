@@ -4,9 +4,9 @@ use mathlib.Core.Bool.{Bool, true, false, cond}
 use mathlib.Core.List.{List, [], _∷_}
 use Rattle.rules.specs.Bytes.{same-bytes}
 use Rattle.bench_script.specs.declared.name.Name.{Name}
-use Rattle.bench_script.specs.declared.name.Name.the-variants.{Init, DeInit, Set, Get, Write, Poll, Sent, BusOff, Arrived, Data, Sheet, Memory, Show, State, Unknown}
+use Rattle.bench_script.specs.declared.name.Name.the-variants.{Init, DeInit, Set, Get, Write, Poll, Sent, BusOff, Arrived, Data, Sheet, Memory, Show, State, Controllers, Object, Unknown}
 
--- the commands' names: init, deinit, set, get, write, poll, sent, busoff, arrived, data, sheet, memory, show, state
+-- the commands' names: init, deinit, set, get, write, poll, sent, busoff, arrived, data, sheet, memory, show, state, controllers, object
 abbrev pub names : List (List ℕ × Name)
 names =
     (105 ∷ 110 ∷ 105 ∷ 116 ∷ [], Init)
@@ -23,6 +23,8 @@ names =
     ∷ (109 ∷ 101 ∷ 109 ∷ 111 ∷ 114 ∷ 121 ∷ [], Memory)
     ∷ (115 ∷ 104 ∷ 111 ∷ 119 ∷ [], Show)
     ∷ (115 ∷ 116 ∷ 97 ∷ 116 ∷ 101 ∷ [], State)
+    ∷ (99 ∷ 111 ∷ 110 ∷ 116 ∷ 114 ∷ 111 ∷ 108 ∷ 108 ∷ 101 ∷ 114 ∷ 115 ∷ [], Controllers)
+    ∷ (111 ∷ 98 ∷ 106 ∷ 101 ∷ 99 ∷ 116 ∷ [], Object)
     ∷ []
 
 -- the one of them that a word is
@@ -34,9 +36,9 @@ name-among (n ∷ ns) w = cond (same-bytes w (n .0)) (n .1) (name-among ns w)
 abbrev pub name-of : List ℕ → Name
 name-of w = name-among names w
 
--- how many words follow
+-- how many words follow at least
 abbrev pub argument-count : Name → ℕ
-argument-count Init = 1
+argument-count Init = 0
 argument-count DeInit = 0
 argument-count Set = 2
 argument-count Get = 1
@@ -50,25 +52,31 @@ argument-count Sheet = 1
 argument-count Memory = 1
 argument-count Show = 1
 argument-count State = 0
+argument-count Controllers = 1
+argument-count Object = 1
 argument-count Unknown = 0
 
 -- no name takes more
 abbrev pub most-arguments : ℕ
 most-arguments = 4
 
-abbrev pub is-unknown : Name → Bool
-is-unknown Init = false
-is-unknown DeInit = false
-is-unknown Set = false
-is-unknown Get = false
-is-unknown Write = false
-is-unknown Poll = false
-is-unknown Sent = false
-is-unknown BusOff = false
-is-unknown Arrived = false
-is-unknown Data = false
-is-unknown Sheet = false
-is-unknown Memory = false
-is-unknown Show = false
-is-unknown State = false
-is-unknown Unknown = true
+-- more may follow: bytes may stand in several words, how many words an object takes is up to its kind, and of an unknown command nothing
+-- is known
+abbrev pub is-open : Name → Bool
+is-open Init = true
+is-open DeInit = false
+is-open Set = false
+is-open Get = false
+is-open Write = true
+is-open Poll = false
+is-open Sent = false
+is-open BusOff = false
+is-open Arrived = true
+is-open Data = false
+is-open Sheet = false
+is-open Memory = false
+is-open Show = false
+is-open State = false
+is-open Controllers = false
+is-open Object = true
+is-open Unknown = true

@@ -3,8 +3,9 @@ ghost use Rattle.bench_script.specs.Command as commands;
 ghost use mathlib.Core.Path.{_≡_};
 use crate::name::Name;
 use crate::name::arguments;
-use crate::name::is_unknown;
+use crate::name::is_open;
 use crate::name::name_of;
+use crate::object::object;
 use bench_words::bytes::LONGEST_LINE;
 use bench_words::bytes::MOST_BYTES;
 use bench_words::bytes::bytes;
@@ -14,6 +15,8 @@ use bench_words::number::mode;
 use bench_words::number::number;
 use bench_words::reading::Reading;
 use bench_words::reading::Trouble;
+use bench_words::split::after;
+use bench_words::split::first;
 use bench_words::split::same;
 use bench_words::split::word;
 
@@ -24,6 +27,8 @@ pub enum Command {
     Init {
         length: u32,
     },
+    // Init with the configuration in words.
+    InitInWords,
     DeInit,
     Set {
         controller: u32,
@@ -66,6 +71,21 @@ pub enum Command {
         object: u32,
     },
     State,
+    // A configuration in words begins, and an object of it that sends or receives.
+    Controllers {
+        count: u32,
+    },
+    Send {
+        controller: u32,
+        payload: u32,
+        padding: u32,
+    },
+    Receive {
+        controller: u32,
+        payload: u32,
+        code: u32,
+        mask: u32,
+    },
     Unreadable(Trouble),
 }
 
@@ -85,11 +105,17 @@ pub const LARGEST_SHEET: usize = 4096;
 
 pub const LARGEST_MEMORY: usize = 16384;
 
-// init BYTES
-fn init(line: &[u8], out: &mut [u8; MOST_BYTES]) -> Command
-    ensures { λ r. ⌜ commands.CommandRead (commands.init-of (now (line .entry))) (now (line .entry)) (now (out .entry)) (now (out .exit)) r ⌝ }
+// The largest number that fits a byte.
+pub const LARGEST_BYTE: u32 = 255;
+
+// init BYTES, or init alone
+fn init(text: &[u8], out: &mut [u8; MOST_BYTES]) -> Command
+    ensures { λ r. ⌜ commands.CommandRead (commands.init-of (now (text .entry))) (now (out .entry)) (now (out .exit)) r ⌝ }
 {
-    let reading = bytes(word(line, 1), out);
+    if first(text).len() == 0 {
+        return Command::InitInWords;
+    }
+    let reading = bytes(text, out);
     match reading {
         Reading::Unreadable(t) => Command::Unreadable(t),
         Reading::Value(n) => Command::Init { length: n },
@@ -97,20 +123,20 @@ fn init(line: &[u8], out: &mut [u8; MOST_BYTES]) -> Command
 }
 
 // set C MODE
-fn set(line: &[u8]) -> Command
-    ensures { λ r. ⌜ r ≡ commands.set-of (now (line .entry)) ⌝ }
+fn set(text: &[u8]) -> Command
+    ensures { λ r. ⌜ r ≡ commands.set-of (now (text .entry)) ⌝ }
 {
-    let controller = number(word(line, 1));
+    let controller = number(first(text));
     match controller {
         Reading::Unreadable(t) => Command::Unreadable(t),
-        Reading::Value(c) => set_to(line, c),
+        Reading::Value(c) => set_to(after(text), c),
     }
 }
 
-fn set_to(line: &[u8], controller: u32) -> Command
-    ensures { λ r. ⌜ r ≡ commands.set-mode-of controller (now (line .entry)) ⌝ }
+fn set_to(text: &[u8], controller: u32) -> Command
+    ensures { λ r. ⌜ r ≡ commands.set-mode-of controller (now (text .entry)) ⌝ }
 {
-    let mode = mode(word(line, 2));
+    let mode = mode(first(text));
     match mode {
         Reading::Unreadable(t) => Command::Unreadable(t),
         Reading::Value(m) => Command::Set {
@@ -134,10 +160,10 @@ fn of_number(what: Numbered, n: u32) -> Command
 }
 
 // get C, sent OBJ, busoff C, data OBJ, show OBJ
-fn with_number(line: &[u8], what: Numbered) -> Command
-    ensures { λ r. ⌜ r ≡ commands.with-number what (now (line .entry)) ⌝ }
+fn with_number(text: &[u8], what: Numbered) -> Command
+    ensures { λ r. ⌜ r ≡ commands.with-number what (now (text .entry)) ⌝ }
 {
-    let reading = number(word(line, 1));
+    let reading = number(first(text));
     match reading {
         Reading::Unreadable(t) => Command::Unreadable(t),
         Reading::Value(n) => of_number(what, n),
@@ -145,10 +171,10 @@ fn with_number(line: &[u8], what: Numbered) -> Command
 }
 
 // sheet N
-fn sheet(line: &[u8]) -> Command
-    ensures { λ r. ⌜ r ≡ commands.sheet-of (now (line .entry)) ⌝ }
+fn sheet(text: &[u8]) -> Command
+    ensures { λ r. ⌜ r ≡ commands.sheet-of (now (text .entry)) ⌝ }
 {
-    let reading = limited(word(line, 1), LARGEST_SHEET as u32, Trouble::SheetTooLong);
+    let reading = limited(first(text), LARGEST_SHEET as u32, Trouble::SheetTooLong);
     match reading {
         Reading::Unreadable(t) => Command::Unreadable(t),
         Reading::Value(n) => Command::Sheet { words: n },
@@ -156,10 +182,10 @@ fn sheet(line: &[u8]) -> Command
 }
 
 // memory N
-fn memory(line: &[u8]) -> Command
-    ensures { λ r. ⌜ r ≡ commands.memory-of (now (line .entry)) ⌝ }
+fn memory(text: &[u8]) -> Command
+    ensures { λ r. ⌜ r ≡ commands.memory-of (now (text .entry)) ⌝ }
 {
-    let reading = limited(word(line, 1), LARGEST_MEMORY as u32, Trouble::MemoryTooLong);
+    let reading = limited(first(text), LARGEST_MEMORY as u32, Trouble::MemoryTooLong);
     match reading {
         Reading::Unreadable(t) => Command::Unreadable(t),
         Reading::Value(n) => Command::Memory { bytes: n },
@@ -186,46 +212,46 @@ fn poll(word: &[u8]) -> Command
 }
 
 // write OBJ HANDLE ID BYTES
-fn write(line: &[u8], out: &mut [u8; MOST_BYTES]) -> Command
-    ensures { λ r. ⌜ commands.CommandRead (commands.write-of (now (line .entry))) (now (line .entry)) (now (out .entry)) (now (out .exit)) r ⌝ }
+fn write(text: &[u8], out: &mut [u8; MOST_BYTES]) -> Command
+    ensures { λ r. ⌜ commands.CommandRead (commands.write-of (now (text .entry))) (now (out .entry)) (now (out .exit)) r ⌝ }
 {
-    let object = number(word(line, 1));
+    let object = number(first(text));
     match object {
         Reading::Unreadable(t) => Command::Unreadable(t),
-        Reading::Value(h) => write_to(line, out, h),
+        Reading::Value(h) => write_to(after(text), out, h),
     }
 }
 
-fn write_to(line: &[u8], out: &mut [u8; MOST_BYTES], object: u32) -> Command
-    ensures { λ r. ⌜ commands.CommandRead (commands.write-to-of object (now (line .entry))) (now (line .entry)) (now (out .entry)) (now (out .exit)) r ⌝ }
+fn write_to(text: &[u8], out: &mut [u8; MOST_BYTES], object: u32) -> Command
+    ensures { λ r. ⌜ commands.CommandRead (commands.write-to-of object (now (text .entry))) (now (out .entry)) (now (out .exit)) r ⌝ }
 {
-    let handle = limited(word(line, 2), LARGEST_HANDLE, Trouble::HandleTooLarge);
+    let handle = limited(first(text), LARGEST_HANDLE, Trouble::HandleTooLarge);
     match handle {
         Reading::Unreadable(t) => Command::Unreadable(t),
-        Reading::Value(p) => write_with(line, out, object, p),
+        Reading::Value(p) => write_with(after(text), out, object, p),
     }
 }
 
-fn write_with(line: &[u8], out: &mut [u8; MOST_BYTES], object: u32, handle: u32) -> Command
-    ensures { λ r. ⌜ commands.CommandRead (commands.write-with-of object handle (now (line .entry))) (now (line .entry)) (now (out .entry)) (now (out .exit)) r ⌝ }
+fn write_with(text: &[u8], out: &mut [u8; MOST_BYTES], object: u32, handle: u32) -> Command
+    ensures { λ r. ⌜ commands.CommandRead (commands.write-with-of object handle (now (text .entry))) (now (out .entry)) (now (out .exit)) r ⌝ }
 {
-    let identifier = identifier(word(line, 3));
+    let identifier = identifier(first(text));
     match identifier {
         Reading::Unreadable(t) => Command::Unreadable(t),
-        Reading::Value(i) => write_frame(line, out, object, handle, i),
+        Reading::Value(i) => write_frame(after(text), out, object, handle, i),
     }
 }
 
 fn write_frame(
-    line: &[u8],
+    text: &[u8],
     out: &mut [u8; MOST_BYTES],
     object: u32,
     handle: u32,
     identifier: u32,
 ) -> Command
-    ensures { λ r. ⌜ commands.CommandRead (commands.write-frame-of object handle identifier (now (line .entry))) (now (line .entry)) (now (out .entry)) (now (out .exit)) r ⌝ }
+    ensures { λ r. ⌜ commands.CommandRead (commands.write-frame-of object handle identifier (now (text .entry))) (now (out .entry)) (now (out .exit)) r ⌝ }
 {
-    let reading = bytes(word(line, 4), out);
+    let reading = bytes(text, out);
     match reading {
         Reading::Unreadable(t) => Command::Unreadable(t),
         Reading::Value(n) => Command::Write {
@@ -238,35 +264,35 @@ fn write_frame(
 }
 
 // arrived C ID BYTES
-fn arrived(line: &[u8], out: &mut [u8; MOST_BYTES]) -> Command
-    ensures { λ r. ⌜ commands.CommandRead (commands.arrived-of (now (line .entry))) (now (line .entry)) (now (out .entry)) (now (out .exit)) r ⌝ }
+fn arrived(text: &[u8], out: &mut [u8; MOST_BYTES]) -> Command
+    ensures { λ r. ⌜ commands.CommandRead (commands.arrived-of (now (text .entry))) (now (out .entry)) (now (out .exit)) r ⌝ }
 {
-    let controller = number(word(line, 1));
+    let controller = number(first(text));
     match controller {
         Reading::Unreadable(t) => Command::Unreadable(t),
-        Reading::Value(c) => arrived_on(line, out, c),
+        Reading::Value(c) => arrived_on(after(text), out, c),
     }
 }
 
-fn arrived_on(line: &[u8], out: &mut [u8; MOST_BYTES], controller: u32) -> Command
-    ensures { λ r. ⌜ commands.CommandRead (commands.arrived-on-of controller (now (line .entry))) (now (line .entry)) (now (out .entry)) (now (out .exit)) r ⌝ }
+fn arrived_on(text: &[u8], out: &mut [u8; MOST_BYTES], controller: u32) -> Command
+    ensures { λ r. ⌜ commands.CommandRead (commands.arrived-on-of controller (now (text .entry))) (now (out .entry)) (now (out .exit)) r ⌝ }
 {
-    let identifier = identifier(word(line, 2));
+    let identifier = identifier(first(text));
     match identifier {
         Reading::Unreadable(t) => Command::Unreadable(t),
-        Reading::Value(i) => arrived_frame(line, out, controller, i),
+        Reading::Value(i) => arrived_frame(after(text), out, controller, i),
     }
 }
 
 fn arrived_frame(
-    line: &[u8],
+    text: &[u8],
     out: &mut [u8; MOST_BYTES],
     controller: u32,
     identifier: u32,
 ) -> Command
-    ensures { λ r. ⌜ commands.CommandRead (commands.arrived-frame-of controller identifier (now (line .entry))) (now (line .entry)) (now (out .entry)) (now (out .exit)) r ⌝ }
+    ensures { λ r. ⌜ commands.CommandRead (commands.arrived-frame-of controller identifier (now (text .entry))) (now (out .entry)) (now (out .exit)) r ⌝ }
 {
-    let reading = bytes(word(line, 3), out);
+    let reading = bytes(text, out);
     match reading {
         Reading::Unreadable(t) => Command::Unreadable(t),
         Reading::Value(n) => Command::Arrived {
@@ -277,64 +303,84 @@ fn arrived_frame(
     }
 }
 
+// controllers N
+fn controllers(text: &[u8]) -> Command
+    ensures { λ r. ⌜ r ≡ commands.controllers-of (now (text .entry)) ⌝ }
+{
+    let reading = limited(first(text), LARGEST_BYTE, Trouble::ByteTooLarge);
+    match reading {
+        Reading::Unreadable(t) => Command::Unreadable(t),
+        Reading::Value(n) => Command::Controllers { count: n },
+    }
+}
+
 // The words after a name.
-fn named(name: Name, line: &[u8], out: &mut [u8; MOST_BYTES]) -> Command
-    ensures { λ r. ⌜ commands.CommandRead (commands.named name (now (line .entry))) (now (line .entry)) (now (out .entry)) (now (out .exit)) r ⌝ }
+fn named(name: Name, text: &[u8], out: &mut [u8; MOST_BYTES]) -> Command
+    ensures { λ r. ⌜ commands.CommandRead (commands.named name (now (text .entry))) (now (out .entry)) (now (out .exit)) r ⌝ }
 {
     match name {
-        Name::Init => init(line, out),
+        Name::Init => init(text, out),
         Name::DeInit => Command::DeInit,
-        Name::Set => set(line),
-        Name::Get => with_number(line, Numbered::Get),
-        Name::Write => write(line, out),
-        Name::Poll => poll(word(line, 1)),
-        Name::Sent => with_number(line, Numbered::Sent),
-        Name::BusOff => with_number(line, Numbered::BusOff),
-        Name::Arrived => arrived(line, out),
-        Name::Data => with_number(line, Numbered::Data),
-        Name::Sheet => sheet(line),
-        Name::Memory => memory(line),
-        Name::Show => with_number(line, Numbered::Show),
+        Name::Set => set(text),
+        Name::Get => with_number(text, Numbered::Get),
+        Name::Write => write(text, out),
+        Name::Poll => poll(first(text)),
+        Name::Sent => with_number(text, Numbered::Sent),
+        Name::BusOff => with_number(text, Numbered::BusOff),
+        Name::Arrived => arrived(text, out),
+        Name::Data => with_number(text, Numbered::Data),
+        Name::Sheet => sheet(text),
+        Name::Memory => memory(text),
+        Name::Show => with_number(text, Numbered::Show),
         Name::State => Command::State,
+        Name::Controllers => controllers(text),
+        Name::Object => object(text),
         Name::Unknown => Command::Unreadable(Trouble::UnknownCommand),
     }
 }
 
-// A name with just as many words as it takes.
+// Whether there is a word n, where the name takes no more.
+fn too_many(name: Name, line: &[u8], n: usize) -> bool
+    ensures { λ r. ⌜ r ≡ commands.too-many name (now (line .entry)) n ⌝ }
+{
+    if is_open(name) {
+        return false;
+    }
+    word(line, n).len() != 0
+}
+
+// A name with as many words as it takes.
 fn counted(name: Name, line: &[u8], out: &mut [u8; MOST_BYTES]) -> Command
-    ensures { λ r. ⌜ commands.CommandRead (commands.counted name (now (line .entry))) (now (line .entry)) (now (out .entry)) (now (out .exit)) r ⌝ }
+    ensures { λ r. ⌜ commands.CommandRead (commands.counted name (now (line .entry))) (now (out .entry)) (now (out .exit)) r ⌝ }
 {
     let count = arguments(name);
-    if is_unknown(name) {
-        return Command::Unreadable(Trouble::UnknownCommand);
-    }
     if word(line, count).len() == 0 {
         return Command::Unreadable(Trouble::WordMissing);
     }
-    if word(line, count + 1).len() != 0 {
+    if too_many(name, line, count + 1) {
         return Command::Unreadable(Trouble::WordTooMany);
     }
-    named(name, line, out)
+    named(name, after(line), out)
 }
 
 // Whether a line says nothing: it is blank, or a comment alone.
 pub fn says_nothing(line: &[u8]) -> bool
     ensures { λ r. ⌜ r ≡ commands.says-nothing (now (line .entry)) ⌝ }
 {
-    let first = word(line, 0);
-    (line.len() <= LONGEST_LINE) & (first.len() == 0)
+    let name = first(line);
+    (line.len() <= LONGEST_LINE) & (name.len() == 0)
 }
 
 // Reads a line, which has no line end any more. The bytes that it brings are put at the start of out.
 pub fn read(line: &[u8], out: &mut [u8; MOST_BYTES]) -> Command
-    ensures { λ r. ⌜ commands.CommandRead (commands.command-of (now (line .entry))) (now (line .entry)) (now (out .entry)) (now (out .exit)) r ⌝ }
+    ensures { λ r. ⌜ commands.CommandRead (commands.command-of (now (line .entry))) (now (out .entry)) (now (out .exit)) r ⌝ }
 {
     if LONGEST_LINE < line.len() {
         return Command::Unreadable(Trouble::LineTooLong);
     }
-    let first = word(line, 0);
-    if first.len() == 0 {
+    let name = first(line);
+    if name.len() == 0 {
         return Command::Blank;
     }
-    counted(name_of(first), line, out)
+    counted(name_of(name), line, out)
 }

@@ -3,7 +3,7 @@ ghost use mathlib.Core.Path.{_≡_};
 ghost use mathlib.Core.Bool.{cond};
 ghost use Rattle.rules.specs.Bytes.{same-bytes};
 ghost use Prim.Native.Nat.{_≤_};
-ghost use Rattle.bench_script.specs.Name.{name-of, is-unknown, argument-count, most-arguments};
+ghost use Rattle.bench_script.specs.Name.{name-of, argument-count, most-arguments, is-open};
 use bench_words::split::same;
 
 pub enum Name {
@@ -21,6 +21,8 @@ pub enum Name {
     Memory,
     Show,
     State,
+    Controllers,
+    Object,
     Unknown,
 }
 
@@ -35,7 +37,9 @@ fn named_or(word: &[u8], text: &[u8], name: Name, other: Name) -> Name
 pub fn name_of(word: &[u8]) -> Name
     ensures { λ r. ⌜ r ≡ name-of (now (word .entry)) ⌝ }
 {
-    let name = named_or(word, b"state", Name::State, Name::Unknown);
+    let name = named_or(word, b"object", Name::Object, Name::Unknown);
+    let name = named_or(word, b"controllers", Name::Controllers, name);
+    let name = named_or(word, b"state", Name::State, name);
     let name = named_or(word, b"show", Name::Show, name);
     let name = named_or(word, b"memory", Name::Memory, name);
     let name = named_or(word, b"sheet", Name::Sheet, name);
@@ -51,12 +55,12 @@ pub fn name_of(word: &[u8]) -> Name
     named_or(word, b"init", Name::Init, name)
 }
 
-// How many words follow a name.
+// How many words follow a name at least.
 pub fn arguments(name: Name) -> usize
     ensures { λ r. ⌜ (r ≡ argument-count name) × (r ≤ most-arguments) ⌝ }
 {
     match name {
-        Name::Init => 1,
+        Name::Init => 0,
         Name::DeInit => 0,
         Name::Set => 2,
         Name::Get => 1,
@@ -70,28 +74,34 @@ pub fn arguments(name: Name) -> usize
         Name::Memory => 1,
         Name::Show => 1,
         Name::State => 0,
+        Name::Controllers => 1,
+        Name::Object => 1,
         Name::Unknown => 0,
     }
 }
 
-pub fn is_unknown(name: Name) -> bool
-    ensures { λ r. ⌜ r ≡ is-unknown name ⌝ }
+// Whether more words may follow: bytes may stand in several words, how many an object takes is up to its kind, and of an unknown
+// command nothing is known.
+pub fn is_open(name: Name) -> bool
+    ensures { λ r. ⌜ r ≡ is-open name ⌝ }
 {
     match name {
-        Name::Init => false,
+        Name::Init => true,
         Name::DeInit => false,
         Name::Set => false,
         Name::Get => false,
-        Name::Write => false,
+        Name::Write => true,
         Name::Poll => false,
         Name::Sent => false,
         Name::BusOff => false,
-        Name::Arrived => false,
+        Name::Arrived => true,
         Name::Data => false,
         Name::Sheet => false,
         Name::Memory => false,
         Name::Show => false,
         Name::State => false,
+        Name::Controllers => false,
+        Name::Object => true,
         Name::Unknown => true,
     }
 }

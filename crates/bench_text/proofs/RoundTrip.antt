@@ -16,8 +16,7 @@ use Rattle.rules.specs.Repeat.{rising, list-below}
 use Rattle.laws.proofs.Tests.{both}
 use Rattle.laws.proofs.Repeat.{facts-all, length-list-below, getD-list-below}
 use Rattle.bench_words.specs.declared.reading.Reading.the-variants.{Value}
-use Rattle.bench_words.specs.Reading.{digit, digit-at, all-digits, value, pair, pair-at, hex-pairs, longest-line, byte-count-of}
-use Rattle.bench_words.proofs.Same.{differ}
+use Rattle.bench_words.specs.Reading.{digit, digit-at, all-digits, value, pair, pair-at, hex-pairs, byte-count-of}
 use Rattle.bench_words.proofs.Digits.{value-snoc}
 use Rattle.bench_text.specs.Put.{hex-of}
 
@@ -91,18 +90,12 @@ hex-digits bs h some =
     both (ap not (ne-eqb (length (hex-of bs)) 0 (λ e. omega (arith, hex-length bs))))
     (facts-all (length (hex-of bs)) (λ i. ltb (digit-at (hex-of bs) i) 16) (λ i l. lt-ltb (digit-at (hex-of bs) i) 16 (hex-digit bs h i l)))
 
--- So are they counted, where there are any and the text is no longer than a line.
-pub count-back : (bs : List ℕ) → Bytes bs → 0 < length bs → 2 * length bs ≤ longest-line → byte-count-of (hex-of bs) ≡ Value (length bs)
+-- So are they counted, where there are any.
+pub count-back : (bs : List ℕ) → Bytes bs → 0 < length bs → byte-count-of (hex-of bs) ≡ Value (length bs)
 unfolding byte-count-of
-count-back bs h some short =
+count-back bs h some =
     let long = hex-length bs in
-    rw (
-      differ (hex-of bs) (45 ∷ []) (λ e. omega (arith, ap length e)),
-      le-ltb longest-line (length (hex-of bs)) (omega arith),
-      hex-digits bs h some,
-      eq-eqb (length (hex-of bs) % 2) 0 (omega arith),
-      hex-count bs,
-    )
+    rw (hex-digits bs h some, eq-eqb (length (hex-of bs) % 2) 0 (omega arith), hex-count bs)
 
 -- The digits of a number in a base are read back: as many of the number's last digits as were written.
 pub digits-back : (base : ℕ) → 0 < base → base ≤ 16 → (k n : ℕ) → value base (digits base k n) ≡ n % base ^ k

@@ -2,4 +2,4 @@
 pub mod Leading
 pub mod Same
 pub mod Digits
-pub mod Counted
+pub mod Words

@@ -1,14 +1,15 @@
 -- Numbers, identifiers and bytes as words.
-use Prim.Native.Nat.{ℕ, _+_, _*_, _-_, _/_, _%_, _^_}
+use Prim.Native.Nat.{ℕ, zero, suc, _+_, _*_, _-_, _/_, _%_, _^_}
 use mathlib.Core.Path.{_≡_}
-use mathlib.Core.Bool.{Bool, not, cond, _&&_}
-use mathlib.Core.List.{List, [], _∷_}
+use mathlib.Core.Bool.{Bool, true, false, not, cond, _&&_}
+use mathlib.Core.List.{List, [], _∷_, _++_}
 use lib.ListN.{length, take, drop, getD}
 use lib.Dec.{eqb, ltb, leb}
 use Rattle.rules.specs.Bytes.{same-bytes, splice}
 use Rattle.rules.specs.Repeat.{rising, all-below, list-below}
+use Rattle.bench_words.specs.Split.{next-word, spanned, is-missing, first}
 use Rattle.bench_words.specs.declared.reading.Trouble.{Trouble}
-use Rattle.bench_words.specs.declared.reading.Trouble.the-variants.{LineTooLong, NotANumber, NumberTooLarge, NotAnIdentifier, IdentifierTooLong, NotHexDigits, OddDigits, NotAMode}
+use Rattle.bench_words.specs.declared.reading.Trouble.the-variants.{LineTooLong, NotANumber, NumberTooLarge, NotAnIdentifier, IdentifierTooLong, NotHexDigits, OddDigits, NotOneByte, NotAMode}
 use Rattle.bench_words.specs.declared.reading.Reading.{Reading}
 use Rattle.bench_words.specs.declared.reading.Reading.the-variants.{Value, Unreadable}
 
@@ -74,31 +75,49 @@ pair-at w i = pair (getD w (2 * i) 0) (getD w (2 * i + 1) 0)
 unfoldable pub hex-pairs : List ℕ → List ℕ
 hex-pairs w = list-below (length w / 2) (pair-at w)
 
--- the word - stands for no bytes
+-- how many bytes a word says
+unfoldable pub byte-count-of : List ℕ → Reading
+byte-count-of w =
+    cond (not (all-digits 16 w)) (Unreadable NotHexDigits)
+    (cond (not (eqb (length w % 2) 0)) (Unreadable OddDigits) (Value (length w / 2)))
+
+abbrev pub is-unreadable : Reading → Bool
+is-unreadable (Value n) = false
+is-unreadable (Unreadable t) = true
+
+-- bytes may stand in several words: how many the words from a position on say, behind those said so far, and the bytes themselves; a word
+-- that can't be read ends them. The number counts down the words, of which a text has fewer than bytes.
+unfoldable pub bytes-from : ℕ → List ℕ → ℕ → List ℕ → Reading × List ℕ
+bytes-from zero text at bytes = (Value (length bytes), bytes)
+bytes-from (suc words) text at bytes =
+    cond (eqb (length (spanned (next-word text at) text)) 0) (Value (length bytes), bytes)
+    (cond (is-unreadable (byte-count-of (spanned (next-word text at) text))) (byte-count-of (spanned (next-word text at) text), bytes)
+    (bytes-from words text (next-word text at .end) (bytes ++ hex-pairs (spanned (next-word text at) text))))
+
+-- the word - alone stands for no bytes
 abbrev pub is-none : List ℕ → Bool
-is-none w = same-bytes w (45 ∷ [])
+is-none text = same-bytes (first text) (45 ∷ []) && is-missing 1 text
 
 -- the most bytes of a line
 abbrev pub longest-line : ℕ
 longest-line = 8192
 
--- how many bytes a word says
-unfoldable pub byte-count-of : List ℕ → Reading
-byte-count-of w =
-    cond (is-none w) (Value 0)
-    (cond (ltb longest-line (length w)) (Unreadable LineTooLong)
-    (cond (not (all-digits 16 w)) (Unreadable NotHexDigits)
-    (cond (not (eqb (length w % 2) 0)) (Unreadable OddDigits) (Value (length w / 2)))))
-
--- the bytes that a word brings, none where it can't be read
-unfoldable pub bytes-brought : Reading → List ℕ → List ℕ
-bytes-brought (Value n) w = hex-pairs w
-bytes-brought (Unreadable t) w = []
+-- the bytes that a text says
+unfoldable pub bytes-of : List ℕ → Reading × List ℕ
+bytes-of text =
+    cond (ltb longest-line (length text)) (Unreadable LineTooLong, [])
+    (cond (is-none text) (Value 0, []) (bytes-from (length text) text 0 []))
 
 -- what reading bytes owes: the count, and the bytes at the start of the buffer; whatever they do not cover keeps its value
-pub record BytesRead (w before after : List ℕ) (r : Reading) : Type 0 where
-  pub count-is : r ≡ byte-count-of w
-  pub bytes-are : after ≡ splice 0 (bytes-brought r w) before
+pub record BytesRead (said : Reading × List ℕ) (before after : List ℕ) (r : Reading) : Type 0 where
+  pub count-is : r ≡ said .0
+  pub bytes-are : after ≡ splice 0 (said .1) before
+
+-- one byte, of two digits
+unfoldable pub one-byte-of : List ℕ → Reading
+one-byte-of w =
+    cond (not (all-digits 16 w)) (Unreadable NotHexDigits)
+    (cond (not (eqb (length w) 2)) (Unreadable NotOneByte) (Value (pair-at w 0)))
 
 -- a number with a limit of its own
 unfoldable pub limited-to : ℕ → Trouble → Reading → Reading
@@ -114,6 +133,10 @@ largest-sheet = 4096
 
 abbrev pub largest-memory : ℕ
 largest-memory = 16384
+
+-- the largest number that fits a byte
+abbrev pub largest-byte : ℕ
+largest-byte = 255
 
 -- a mode is STARTED, STOPPED, SLEEP or a number
 unfoldable pub mode-of : List ℕ → Reading

@@ -1,17 +1,17 @@
--- Words are separated by spaces or tabs, and # starts a comment.
+-- Words are separated by spaces, tabs or commas, and # starts a comment.
 use Prim.Native.Nat.{ℕ, zero, suc, _+_, _-_}
 use mathlib.Core.Bool.{Bool, not, cond, _&&_, _||_}
 use mathlib.Core.List.{List, [], _∷_}
-use lib.ListN.{drop}
+use lib.ListN.{length, drop}
 use lib.Dec.{eqb}
 use Rattle.rules.specs.Bytes.{part}
 use Rattle.bench_words.specs.declared.split.Span.{Span}
 use Rattle.bench_words.specs.declared.split.Run.{Run}
 use Rattle.bench_words.specs.declared.split.Run.the-variants.{Blanks, Word, Text}
 
--- a space or a tab
+-- a space, a tab or a comma
 abbrev pub is-blank : ℕ → Bool
-is-blank b = eqb b 32 || eqb b 9
+is-blank b = eqb b 32 || eqb b 9 || eqb b 44
 
 -- any other byte, but for #, with which a comment begins
 abbrev pub in-word : ℕ → Bool
@@ -44,6 +44,21 @@ unfoldable pub word-at : List ℕ → ℕ → Span
 word-at line zero = next-word line 0
 word-at line (suc n) = next-word line (word-at line n .end)
 
+-- the bytes of a word
+abbrev pub spanned : Span → List ℕ → List ℕ
+spanned s line = part (s .start) (s .end - s .start) line
+
 -- the bytes of word n, none if there is no such word
 unfoldable pub word : ℕ → List ℕ → List ℕ
-word n line = part (word-at line n .start) (word-at line n .end - word-at line n .start) line
+word n line = spanned (word-at line n) line
+
+-- word n is missing where it is empty
+abbrev pub is-missing : ℕ → List ℕ → Bool
+is-missing n line = eqb (length (word n line)) 0
+
+-- the first word of a text, and what follows it
+abbrev pub first : List ℕ → List ℕ
+first text = word 0 text
+
+abbrev pub after : List ℕ → List ℕ
+after text = drop (next-word text 0 .end) text

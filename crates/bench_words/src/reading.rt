@@ -12,11 +12,16 @@ pub enum Trouble {
     IdentifierTooLong,
     NotHexDigits,
     OddDigits,
+    NotOneByte,
     NotAMode,
     UnknownPoll,
     HandleTooLarge,
     SheetTooLong,
     MemoryTooLong,
+    ByteTooLarge,
+    UnexpectedWord,
+    UnknownKind,
+    TooManyObjects,
 }
 
 // The number that a word says, or the trouble with it.

@@ -3,7 +3,7 @@ ghost use mathlib.Core.Path.{_≡_};
 ghost use Prim.Native.Nat.{_+_, _-_};
 ghost use lib.ListN.{drop};
 ghost use Rattle.rules.specs.Bytes.{part, same-bytes};
-ghost use Rattle.bench_words.specs.Split.{is-blank, in-run, leading, next-word, word-at, word};
+ghost use Rattle.bench_words.specs.Split.{is-blank, in-run, leading, next-word, word-at, word, first, after};
 
 // Where a word stands: from start up to, not including, end. An empty one says that there is no further word.
 pub struct Span {
@@ -18,11 +18,11 @@ pub enum Run {
     Text,
 }
 
-// Spaces and tabs separate words.
+// Spaces, tabs and commas separate words.
 fn is_blank(b: u8) -> bool
     ensures { λ r. ⌜ r ≡ is-blank b ⌝ }
 {
-    (b == b' ') | (b == b'\t')
+    (b == b' ') | (b == b'\t') | (b == b',')
 }
 
 // A comment ends a word, as a blank does; a bar ends a text.
@@ -52,7 +52,7 @@ pub fn skip(line: &[u8], at: usize, run: Run) -> usize
 }
 
 // The first word at or after a position.
-fn next_word(line: &[u8], at: usize) -> Span
+pub fn next_word(line: &[u8], at: usize) -> Span
     ensures { λ r. ⌜ r ≡ next-word (now (line .entry)) at ⌝ }
 {
     let start = skip(line, at, Run::Blanks);
@@ -89,6 +89,21 @@ pub fn word(line: &[u8], n: usize) -> &[u8]
 {
     let span = word_at(line, n);
     between(line, span.start, span.end)
+}
+
+// The first word of a text; empty where there is none.
+pub fn first(text: &[u8]) -> &[u8]
+    ensures { λ r. ⌜ now r ≡ first (now (text .entry)) ⌝ }
+{
+    word(text, 0)
+}
+
+// What follows the first word.
+pub fn after(text: &[u8]) -> &[u8]
+    ensures { λ r. ⌜ now r ≡ after (now (text .entry)) ⌝ }
+{
+    let span = next_word(text, 0);
+    between(text, span.end, text.len())
 }
 
 // Whether two words are the same.

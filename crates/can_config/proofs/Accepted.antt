@@ -76,7 +76,7 @@ module _ (bytes : List ℕ) where
   abbrev pub records : ℕ → ℕ → Bool
   records k n = all-below n (λ h. record-valid k (object-record chip can-format bytes h))
 
-  judged : (outline (controllers-byte bytes) (objects-byte bytes) && records (controllers-byte bytes) (objects-byte bytes)) ≡ accepted-bytes chip can-format bytes
+  pub judged : (outline (controllers-byte bytes) (objects-byte bytes) && records (controllers-byte bytes) (objects-byte bytes)) ≡ accepted-bytes chip can-format bytes
   unfolding accepted-bytes configuration-of
   judged =
       let k = controllers-byte bytes in

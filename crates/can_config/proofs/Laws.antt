@@ -26,7 +26,7 @@ all-below-first zero p = sym (and-true (p 0))
 all-below-first (suc n) p =
     ap (λ (b : Bool). b && p (suc n)) (all-below-first n p) ∙ and-assoc (p 0) (all-below n (λ i. p (suc i))) (p (suc n))
 
-and-left-comm : (a b c : Bool) → (a && (b && c)) ≡ (b && (a && c))
+pub and-left-comm : (a b c : Bool) → (a && (b && c)) ≡ (b && (a && c))
 and-left-comm true b c = refl
 and-left-comm false true c = refl
 and-left-comm false false c = refl

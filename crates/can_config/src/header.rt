@@ -11,7 +11,7 @@ pub const CONTROLLERS_AT: usize = 5;
 
 pub const OBJECTS_AT: usize = 6;
 
-const ZERO_AT: usize = 7;
+pub const ZERO_AT: usize = 7;
 
 pub const HEADER_SIZE: usize = 8;
 

@@ -7,10 +7,10 @@ ghost use mathlib.Core.Bool.{true, false};
 ghost use Rattle.rules.specs.Can as can;
 
 // Bits 30 and 29, which a filter code leaves zero.
-const CODE_UNUSED: u32 = 0x6000_0000;
+pub const CODE_UNUSED: u32 = 0x6000_0000;
 
 // Bits 31 to 29, which a filter mask leaves zero.
-const MASK_UNUSED: u32 = 0xE000_0000;
+pub const MASK_UNUSED: u32 = 0xE000_0000;
 
 // A sending object has no filter.
 pub fn sending_valid(payload: u32, padding: u8, code: u32, mask: u32) -> bool

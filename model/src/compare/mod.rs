@@ -9,6 +9,7 @@ mod report;
 mod settings;
 mod shorten;
 mod shrink;
+mod spelled;
 mod tally;
 
 use std::error::Error;

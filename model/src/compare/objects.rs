@@ -41,10 +41,11 @@ pub fn without(lines: &[Vec<u8>], place: usize, object: usize) -> Vec<Vec<u8>> {
     lines
 }
 
-/// The digits of an Init whose count and length agree.
-fn digits(line: &[u8]) -> Option<&[u8]> {
+/// The digits of an Init whose count and length agree, its words put together.
+fn digits(line: &[u8]) -> Option<Vec<u8>> {
     let mut words = script::words(line.trim_ascii_end());
-    let digits = words.next().filter(|&name| name == b"init").and(words.next())?;
+    words.next().filter(|&name| name == b"init")?;
+    let digits = words.collect::<Vec<_>>().concat();
     let count = std::str::from_utf8(digits.get(COUNT)?).ok()?;
     let count = usize::from_str_radix(count, 16).ok()?;
     (digits.len() == HEADER + RECORD * count).then_some(digits)
@@ -73,6 +74,7 @@ mod tests {
     fn objects_are_counted() {
         assert_eq!(count(INIT.as_bytes()), 2);
         assert_eq!(count(INIT.replace(' ', "\t").replace('\n', " # K\r\n").as_bytes()), 2);
+        assert_eq!(count(INIT.replace("0102", "01 02 ").as_bytes()), 2);
         for line in
             ["init 4348420001010000\n", "init 4348420001010100\n", "init -\n", "init\n", "\n"]
         {

@@ -2,6 +2,10 @@
 
 use crate::script;
 
+/// The words of a line that are replaced, as many as an object line has. Words after
+/// them are bytes, which are gathered in one word first.
+const REPLACED: usize = 10;
+
 /// Simpler lines, the boldest first. Each is shorter, has fewer digits that
 /// matter, or has lost its odd line end or blanks, so that trying them comes
 /// to an end.
@@ -9,8 +13,9 @@ pub fn simpler(line: &[u8]) -> Vec<Vec<u8>> {
     let text = line.trim_ascii_end();
     let words: Vec<&[u8]> = script::words(text).collect();
     let mut lines = vec![joined(&words)];
+    lines.extend(gathered(&words));
     lines.extend(cut(text));
-    for place in 1..words.len() {
+    for place in 1..words.len().min(REPLACED) {
         for simple in replacements(words[place]) {
             let mut words = words.clone();
             words[place] = &simple;
@@ -26,6 +31,19 @@ pub fn joined(words: &[&[u8]]) -> Vec<u8> {
     let mut line = words.join(&b' ');
     line.push(b'\n');
     line
+}
+
+/// The line with its bytes in one word, if they are in several.
+fn gathered(words: &[&[u8]]) -> Option<Vec<u8>> {
+    let single = match *words.first()? {
+        b"init" => 1,
+        b"arrived" => 3,
+        b"write" => 4,
+        _ => return None,
+    };
+    let (single, bytes) = words.split_at_checked(single)?;
+    let bytes = bytes.concat();
+    (words.len() > single.len() + 1).then(|| joined(&[single, &[&bytes]].concat()))
 }
 
 /// The line without its second half, its last quarter and so on. The long
@@ -78,6 +96,18 @@ mod tests {
     }
 
     #[test]
+    fn bytes_are_gathered() {
+        assert_eq!(simpler_than("init 43 4842\n")[0], "init 434842\n");
+        assert_eq!(simpler_than("write 0 7 123 01 - 02\n")[0], "write 0 7 123 01-02\n");
+        assert_eq!(simpler_than("arrived 0 123 01 02\n")[0], "arrived 0 123 0102\n");
+        for line in ["init 434842\n", "init\n", "write 0 7 123\n", "set 0 1 2\n"] {
+            assert!(
+                gathered(&script::words(line.trim_end().as_bytes()).collect::<Vec<_>>()).is_none()
+            );
+        }
+    }
+
+    #[test]
     fn words_are_replaced() {
         let lines = simpler_than("sent 31\n");
         for line in ["sent 0\n", "sent -\n", "sent 00\n"] {
@@ -90,7 +120,7 @@ mod tests {
     #[test]
     fn trying_them_comes_to_an_end() {
         for pick in 0..20 {
-            let mut line = b"\twrite 0x1F 65535 9fffffff 00FF-0 \t# x\r".to_vec();
+            let mut line = b"\twrite 0x1F 65535 9fffffff 00FF 11 -0 22 \t# x\r".to_vec();
             let mut steps = 0;
             loop {
                 let mut lines = simpler(&line);

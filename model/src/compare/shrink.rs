@@ -1,6 +1,6 @@
 //! Making a night that differs smaller while it still differs.
 
-use super::{objects, shorten};
+use super::{objects, shorten, spelled};
 
 /// A night that differs, and the smaller nights tried in its place.
 pub struct Shrinker<F> {
@@ -25,6 +25,8 @@ impl<F: FnMut(&[Vec<u8>]) -> bool> Shrinker<F> {
 
     /// Shrinks until nothing can be taken away, or all trials are used up.
     pub fn shrink(mut self) -> Shrunk {
+        self.remove_lines();
+        self.spell_out();
         loop {
             self.remove_lines();
             // With fewer objects or shorter words other lines may go too.
@@ -75,6 +77,15 @@ impl<F: FnMut(&[Vec<u8>]) -> bool> Shrinker<F> {
             end = start;
         }
         self.lines.len() < before
+    }
+
+    /// Puts configurations in words as bytes, all at once: then their objects can be
+    /// dropped, and the lines that said them can go. It makes lines longer, so it is
+    /// tried once.
+    fn spell_out(&mut self) {
+        if spelled::out(&self.lines) != self.lines {
+            self.replace(spelled::out);
+        }
     }
 
     /// Drops configured objects, the last first.
@@ -206,6 +217,25 @@ mod tests {
         };
         let (left, _) = shrunk(&night.map(str::to_string), 5000, differs);
         assert_eq!(left, ["write 5 0 0 000000\n"]);
+    }
+
+    #[test]
+    fn a_configuration_in_words_becomes_bytes() {
+        let object =
+            |padding: &str| format!("object send controller 0 payload 8 padding {padding}\n");
+        let mut night: Vec<String> =
+            (0..32).map(|number| object(&format!("{number:02x}"))).collect();
+        night.insert(0, "controllers 1\n".to_string());
+        night.extend(["init\n".to_string(), "sent 17\n".to_string()]);
+        // The error is on the object with the padding 11, said in words or as bytes.
+        let differs = |lines: &[&str]| {
+            let said = lines.contains(&object("11").as_str()) && lines.contains(&"init\n");
+            let bytes =
+                lines.iter().any(|line| line.starts_with("init") && line.contains("00000811"));
+            (said || bytes) && lines.iter().any(|line| line.starts_with("sent "))
+        };
+        let (left, _) = shrunk(&night, 5000, differs);
+        assert_eq!(left, ["init 434842000100010000000811\n", "sent \n"]);
     }
 
     #[test]

@@ -1,12 +1,13 @@
 //! Calm commands: mostly what the bench would accept next.
 
 use super::frames::{
-    arriving_length, fitting_identifier, good_identifier, handle, hex, identifier_word,
-    number_word, random_bytes_word, written_length,
+    arriving_length, bytes_words, fitting_identifier, good_identifier, handle, identifier_word,
+    number_word, random_bytes_words, written_length,
 };
-use super::{configs, Maker, Style};
-use crate::config::{Kind, ObjectConfig};
+use super::{configs, said, Maker, Style};
+use crate::config::{Config, Kind, ObjectConfig};
 use crate::identifier::FD;
+use crate::limits::OBJECTS;
 use crate::mode::Mode;
 use crate::state::{ControllerPlace, ObjectPlace, State};
 
@@ -45,6 +46,9 @@ const ACTIONS: [(usize, Action); 12] = [
 impl Maker {
     /// The next calm command.
     pub(super) fn calm_command(&mut self) -> String {
+        if let Some(line) = self.coming.pop_front() {
+            return line;
+        }
         if !self.state().initialised {
             self.winding_down = false;
             return self.command_before_init();
@@ -76,7 +80,7 @@ impl Maker {
     fn command_before_init(&mut self) -> String {
         if self.style == Style::Wild && self.rng.percent(70) {
             let bytes = configs::broken(&mut self.rng);
-            return format!("init {}", hex(&bytes, false));
+            return self.init_with(&bytes);
         }
         if self.rng.percent(70) {
             return self.init();
@@ -91,9 +95,51 @@ impl Maker {
         }
     }
 
+    /// A good configuration, at times the one said in words before.
     fn init(&mut self) -> String {
+        if self.rng.percent(25) {
+            if let Some(line) = self.init_again() {
+                return line;
+            }
+        }
         let bytes = configs::good(&mut self.rng);
-        format!("init {}", hex(&bytes, self.rng.percent(20)))
+        self.init_with(&bytes)
+    }
+
+    /// Init with these bytes, at times in words; then this is the first line, and
+    /// the others come one by one.
+    pub(super) fn init_with(&mut self, bytes: &[u8]) -> String {
+        let in_words = match self.style {
+            Style::Calm => self.rng.percent(30),
+            // The more lines it takes the rarer it is.
+            Style::Wild => self.rng.one_in(2 + bytes.len() / 12),
+        };
+        if in_words && self.coming.is_empty() {
+            if let Some(lines) = said::lines(&mut self.rng, bytes) {
+                return self.first_of(lines);
+            }
+        }
+        format!("init {}", bytes_words(&mut self.rng, bytes))
+    }
+
+    /// The configuration said in words before, if it is a good one, at times with
+    /// another object.
+    fn init_again(&mut self) -> Option<String> {
+        let config = Config::read(self.bench().draft().bytes())?;
+        if config.objects().len() == OBJECTS || self.rng.percent(60) {
+            return Some("init".to_string());
+        }
+        let record = configs::record(&mut self.rng, config.controllers(), 50);
+        let line = said::object(&mut self.rng, &record)?;
+        Some(self.first_of(vec![line, "init".to_string()]))
+    }
+
+    /// The first of some lines; the others come one by one, before any others that wait.
+    pub(super) fn first_of(&mut self, lines: Vec<String>) -> String {
+        for line in lines.into_iter().rev() {
+            self.coming.push_front(line);
+        }
+        self.coming.pop_front().unwrap_or_default()
     }
 
     /// The next step towards a DeInit: handle bus-offs, stop every controller.
@@ -180,7 +226,7 @@ impl Maker {
             number_word(&mut self.rng, object),
             handle(&mut self.rng),
             identifier_word(&mut self.rng, identifier),
-            random_bytes_word(&mut self.rng, length)
+            random_bytes_words(&mut self.rng, length)
         ))
     }
 
@@ -215,7 +261,7 @@ impl Maker {
             "arrived {} {} {}",
             controller,
             identifier_word(&mut self.rng, identifier),
-            random_bytes_word(&mut self.rng, length)
+            random_bytes_words(&mut self.rng, length)
         ))
     }
 
@@ -284,7 +330,7 @@ impl Maker {
             2 => format!("set {controller} {}", self.rng.pick(["STARTED", "SLEEP", "STOPPED"])),
             3 => format!("busoff {controller}"),
             4 => format!("sent {object}"),
-            5 => format!("arrived {controller} 120 {}", random_bytes_word(&mut self.rng, 8)),
+            5 => format!("arrived {controller} 120 {}", random_bytes_words(&mut self.rng, 8)),
             _ => self.write_to(object).unwrap_or_else(|| format!("sent {object}")),
         }
     }

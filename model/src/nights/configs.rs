@@ -2,11 +2,13 @@
 
 use super::frames::identifier_bits;
 use super::rng::Rng;
+use crate::draft::Record;
 use crate::identifier::EXTENDED;
 
 const HEADER: usize = 8;
 const RECORD: usize = 12;
 const SENDING: u8 = 0;
+const RECEIVING: u8 = 1;
 
 /// A configuration that Init accepts.
 pub fn good(rng: &mut Rng) -> Vec<u8> {
@@ -19,19 +21,25 @@ pub fn good(rng: &mut Rng) -> Vec<u8> {
     let mut bytes = vec![0x43, 0x48, 0x42, 0, 1, controllers as u8, objects as u8, 0];
     let receiving_percent = rng.pick([50, 50, 50, 20, 80, 0, 100]);
     for _ in 0..objects {
-        let controller = rng.below(controllers) as u8;
-        let payload = rng.pick([8, 64]);
-        if rng.percent(receiving_percent) {
-            let (code, mask) = filter(rng);
-            bytes.extend([controller, 1, payload, 0]);
-            bytes.extend(code.to_be_bytes());
-            bytes.extend(mask.to_be_bytes());
-        } else {
-            bytes.extend([controller, SENDING, payload, rng.byte()]);
-            bytes.extend([0; 8]);
-        }
+        bytes.extend(record(rng, controllers, receiving_percent));
     }
     bytes
+}
+
+/// A good record for one of so many controllers.
+pub fn record(rng: &mut Rng, controllers: usize, receiving_percent: usize) -> Record {
+    let controller = rng.below(controllers) as u8;
+    let payload = rng.pick([8, 64]);
+    let mut record = [controller, SENDING, payload, 0, 0, 0, 0, 0, 0, 0, 0, 0];
+    if rng.percent(receiving_percent) {
+        let (code, mask) = filter(rng);
+        record[1] = RECEIVING;
+        record[4..8].copy_from_slice(&code.to_be_bytes());
+        record[8..].copy_from_slice(&mask.to_be_bytes());
+    } else {
+        record[3] = rng.byte();
+    }
+    record
 }
 
 /// A good filter; many are alike, so that several objects fit one frame.

@@ -112,8 +112,47 @@ pub fn number_word(rng: &mut Rng, number: u32) -> String {
     }
 }
 
+/// Bytes as a script may write them: mostly in one word, now and then in several.
+pub fn bytes_words(rng: &mut Rng, bytes: &[u8]) -> String {
+    let upper = rng.percent(25);
+    if bytes.len() < 2 || rng.percent(75) {
+        return hex(bytes, upper);
+    }
+    // The longest word in bytes; each word is as long, or of any length up to it.
+    let longest = rng.pick([1, 2, 4, 8, 12, 20]);
+    let even = rng.percent(50);
+    let mut words = Vec::new();
+    let mut rest = bytes;
+    while !rest.is_empty() {
+        let length = if even { longest } else { rng.between(1, longest) };
+        let (word, after) = rest.split_at(length.min(rest.len()));
+        words.push(hex(word, upper));
+        rest = after;
+    }
+    words.join(" ")
+}
+
 /// So many random bytes as a script may write them.
-pub fn random_bytes_word(rng: &mut Rng, length: usize) -> String {
+pub fn random_bytes_words(rng: &mut Rng, length: usize) -> String {
     let bytes = rng.bytes(length);
-    hex(&bytes, rng.percent(30))
+    bytes_words(rng, &bytes)
+}
+
+#[cfg(test)]
+mod tests {
+    use super::*;
+
+    #[test]
+    fn several_words_are_the_same_bytes() {
+        let mut rng = Rng::new(9);
+        let mut several = 0;
+        for length in (0..500).map(|number| number % 70) {
+            let bytes = rng.bytes(length);
+            let words = bytes_words(&mut rng, &bytes);
+            several += usize::from(words.contains(' '));
+            assert!(words.split(' ').all(|word| word == "-" || word.len().is_multiple_of(2)));
+            assert_eq!(words.replace(' ', "").to_lowercase(), hex(&bytes, false));
+        }
+        assert!((50..250).contains(&several), "{several} of 500 in several words");
+    }
 }

@@ -7,8 +7,11 @@ mod calm;
 pub(crate) mod configs;
 pub(crate) mod frames;
 pub(crate) mod rng;
+mod said;
 mod strange;
 mod wild;
+
+use std::collections::VecDeque;
 
 use crate::bench::Bench;
 use crate::lines::Line;
@@ -61,6 +64,8 @@ pub struct Maker {
     night: Night,
     /// True while controllers are being stopped for a DeInit.
     winding_down: bool,
+    /// The lines still to come of a configuration in words.
+    coming: VecDeque<String>,
     answer: Vec<u8>,
 }
 
@@ -72,6 +77,7 @@ impl Maker {
             style,
             night: Night::default(),
             winding_down: false,
+            coming: VecDeque::new(),
             answer: Vec::new(),
         }
     }

@@ -1,10 +1,10 @@
 //! Wild lines: hostile calls, damaged lines and strange line ends.
 
 use super::frames::{
-    bad_identifier, good_identifier, hex, identifier_word, number_word, random_bytes_word,
+    bad_identifier, good_identifier, identifier_word, number_word, random_bytes_words,
 };
 use super::strange::STRANGE_LINES;
-use super::{configs, Maker};
+use super::{configs, said, Maker};
 use crate::limits::{MEMORY_BYTES, SHEET_WORDS};
 use crate::lines::LONGEST_LINE;
 
@@ -36,6 +36,9 @@ impl Maker {
         if !self.bench().lends_enough() && self.rng.percent(30) {
             let command = self.good_length();
             return self.dressed(&command);
+        }
+        if !self.coming.is_empty() && self.rng.percent(85) {
+            return self.next_coming();
         }
         match self.rng.weighted(&KINDS) {
             Kind::Calm => {
@@ -70,6 +73,16 @@ impl Maker {
                 self.ended(line)
             }
         }
+    }
+
+    /// The next line of a configuration in words, now and then damaged.
+    fn next_coming(&mut self) -> Vec<u8> {
+        let command = self.coming.pop_front().unwrap_or_default();
+        if self.rng.one_in(40) {
+            let damaged = self.damaged(command.into_bytes());
+            return self.ended(damaged);
+        }
+        self.dressed(&command)
     }
 
     /// Adds the line end: mostly LF, now and then CRLF.
@@ -119,7 +132,11 @@ impl Maker {
 
     /// A call that can be read, with arguments that may be anything.
     fn hostile(&mut self) -> String {
-        match self.rng.below(24) {
+        if self.rng.one_in(3000) && self.coming.is_empty() {
+            let lines = said::crowd(&mut self.rng);
+            return self.first_of(lines);
+        }
+        match self.rng.below(25) {
             0 => self.init_with_any(),
             1 if self.rng.percent(50) => "deinit".to_string(),
             1 => self.init_with_any(),
@@ -135,6 +152,7 @@ impl Maker {
             18..=20 => self.any_arrival(),
             21 => format!("data {}", self.any_object()),
             22 => format!("show {}", self.any_object()),
+            23 => self.any_words(),
             _ => "state".to_string(),
         }
     }
@@ -145,7 +163,21 @@ impl Maker {
         } else {
             configs::good(&mut self.rng)
         };
-        format!("init {}", hex(&bytes, self.rng.percent(20)))
+        self.init_with(&bytes)
+    }
+
+    /// A line of a configuration in words at any moment, so that what was said
+    /// before goes on or begins again.
+    fn any_words(&mut self) -> String {
+        match self.rng.below(10) {
+            0 => {
+                let count = self.rng.pick([0, 1, 2, 3, 4, 5, 255]);
+                said::controllers(&mut self.rng, count)
+            }
+            1..=3 => "init".to_string(),
+            4..=6 => said::any_object(&mut self.rng),
+            _ => said::broken_object(&mut self.rng),
+        }
     }
 
     /// Any length from 0 to 70 and any identifier, good or not.
@@ -154,7 +186,7 @@ impl Maker {
         let handle = self.rng.below(65_536);
         let identifier = self.any_identifier();
         let length = self.rng.between(0, 70);
-        let data = random_bytes_word(&mut self.rng, length);
+        let data = random_bytes_words(&mut self.rng, length);
         format!("write {object} {handle} {identifier} {data}")
     }
 
@@ -162,7 +194,7 @@ impl Maker {
         let controller = self.any_controller();
         let identifier = self.any_identifier();
         let length = self.rng.between(0, 70);
-        let data = random_bytes_word(&mut self.rng, length);
+        let data = random_bytes_words(&mut self.rng, length);
         format!("arrived {controller} {identifier} {data}")
     }
 
@@ -211,7 +243,7 @@ impl Maker {
     /// A line with one thing wrong in it; it never holds an LF.
     fn damaged(&mut self, mut line: Vec<u8>) -> Vec<u8> {
         let at = self.rng.below(line.len());
-        match self.rng.below(8) {
+        match self.rng.below(9) {
             0 => {
                 line.remove(at);
             }
@@ -224,6 +256,10 @@ impl Maker {
                 line[at] = if byte == b'\n' { 0 } else { byte };
             }
             6 => line.extend_from_slice(self.rng.pick([&b" 0"[..], b" x", b" -", b"0", b"g"])),
+            7 => {
+                let word = self.rng.pick([&b" - "[..], b" 00 ", b" 0 ", b" x "]);
+                line.splice(at..at, word.iter().copied());
+            }
             _ => line.swap(at, 0),
         }
         line
@@ -240,14 +276,16 @@ impl Maker {
             _ => 70_000,
         };
         let (start, filler) = self.rng.pick([
-            ("init ", b'0'),
-            ("state", b' '),
-            ("# ", b'x'),
-            ("get ", b'0'),
-            ("", b'\t'),
+            ("init ", "0"),
+            ("init ", " "),
+            ("init ", "00 "),
+            ("state", " "),
+            ("# ", "x"),
+            ("get ", "0"),
+            ("controllers ", "0"),
+            ("object", " "),
+            ("", "\t"),
         ]);
-        let mut line = start.as_bytes().to_vec();
-        line.resize(length, filler);
-        line
+        start.bytes().chain(filler.bytes().cycle()).take(length).collect()
     }
 }

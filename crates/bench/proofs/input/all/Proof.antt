@@ -6,11 +6,11 @@ use Rattle.bench.proofs.input.all.Statement.{statement}
 use Rattle.bench.proofs.input.all.Tie as tie
 
 abbrev Inv-loop : tie.InvT-loop
-Inv-loop input₀ line₀ memory₀ sheet₀ bytes₀ out₀ taken₀ playing₀ steps₀ input line memory sheet bytes out taken playing steps =
-    (length input ≡ length input₀) × (length line ≡ length line₀) × (length memory ≡ length memory₀) × (length sheet ≡ length sheet₀) × (length out ≡ length out₀) × (length taken ≡ length taken₀)
+Inv-loop input₀ line₀ memory₀ sheet₀ bytes₀ draft₀ out₀ book₀ playing₀ steps₀ input line memory sheet bytes draft out book playing steps =
+    (length input ≡ length input₀) × (length line ≡ length line₀) × (length memory ≡ length memory₀) × (length sheet ≡ length sheet₀)
 
 abbrev μ-loop : tie.MeasureT-loop
-μ-loop input₀ line₀ memory₀ sheet₀ bytes₀ out₀ taken₀ playing₀ steps₀ input line memory sheet bytes out taken playing steps =
+μ-loop input₀ line₀ memory₀ sheet₀ bytes₀ draft₀ out₀ book₀ playing₀ steps₀ input line memory sheet bytes draft out book playing steps =
     steps
 
 loop-holds : tie.Need-loop-holds Inv-loop μ-loop
@@ -49,12 +49,6 @@ same-length-3 c = search needs
 same-length-4 : tie.Need-same-length-4 Inv-loop μ-loop
 same-length-4 c = search needs
 
-same-length-5 : tie.Need-same-length-5 Inv-loop μ-loop
-same-length-5 c = search needs
-
-same-length-6 : tie.Need-same-length-6 Inv-loop μ-loop
-same-length-6 c = search needs
-
 returns : tie.Need-returns Inv-loop μ-loop
 returns c = search needs
 
@@ -76,6 +70,4 @@ all-spec =
     same-length-2
     same-length-3
     same-length-4
-    same-length-5
-    same-length-6
     returns)

@@ -7,10 +7,10 @@ use Rattle.bench.proofs.tell.all.Statement.{statement}
 use Rattle.bench.proofs.tell.all.Tie as tie
 
 abbrev Inv-loop : tie.InvT-loop
-Inv-loop out₀ taken₀ ram origins poll sheet count told₀ i₀ out taken told i = (i ≤ count) × (length out ≡ length out₀) × (length taken ≡ length taken₀)
+Inv-loop out₀ book₀ ram poll sheet count told₀ i₀ out book told i = (i ≤ count) × (length out ≡ length out₀) × (length book ≡ length book₀)
 
 abbrev μ-loop : tie.MeasureT-loop
-μ-loop out₀ taken₀ ram origins poll sheet count told₀ i₀ out taken told i = count - i
+μ-loop out₀ book₀ ram poll sheet count told₀ i₀ out book told i = count - i
 
 loop-holds : tie.Need-loop-holds Inv-loop μ-loop
 loop-holds c = search needs

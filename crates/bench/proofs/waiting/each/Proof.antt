@@ -8,16 +8,16 @@ use Rattle.bench.proofs.waiting.each.Statement.{statement}
 use Rattle.bench.proofs.waiting.each.Tie as tie
 
 abbrev Inv-loop : tie.InvT-loop
-Inv-loop out₀ at night ram end₀ h₀ out end h = (h ≤ chip .objects) × (length out ≡ length out₀)
+Inv-loop out₀ at state book ram end₀ h₀ out end h = (h ≤ chip .objects) × (length out ≡ length out₀)
 
 abbrev μ-loop : tie.MeasureT-loop
-μ-loop out₀ at night ram end₀ h₀ out end h = chip .objects - h
+μ-loop out₀ at state book ram end₀ h₀ out end h = chip .objects - h
 
 loop-holds : tie.Need-loop-holds Inv-loop μ-loop
 loop-holds c = search needs
 
-one-requires : tie.Need-one-requires Inv-loop μ-loop
-one-requires c κs = search needs
+one-of-requires : tie.Need-one-of-requires Inv-loop μ-loop
+one-of-requires c κs = search needs
 
 add-h : tie.Need-add-h Inv-loop μ-loop
 add-h c = search needs
@@ -41,7 +41,7 @@ each-spec =
     Inv-loop
     μ-loop
     loop-holds
-    one-requires
+    one-of-requires
     add-h
     loop-less
     loop-again

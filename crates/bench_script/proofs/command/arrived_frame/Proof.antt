@@ -1,14 +1,9 @@
--- `bench_script::command::arrived_frame` meets its contract: word 3 says the bytes.
-use mathlib.Core.Path.{refl}
-use Rattle.bench_script.specs.Command.{brought}
+-- `bench_script::command::arrived_frame` meets its contract: the words say the bytes.
 use Rattle.bench_script.specs.declared.command.Command.the-variants.{Arrived}
 use Rattle.bench_script.proofs.Made.{bringing}
 use borrow.Author.Needs.{needs}
 use Rattle.bench_script.proofs.command.arrived_frame.Statement.{statement}
 use Rattle.bench_script.proofs.command.arrived_frame.Tie as tie
-
-word-requires : tie.Need-word-requires
-word-requires c κs = search needs
 
 bytes-requires : tie.Need-bytes-requires
 bytes-requires c κs = search needs
@@ -20,24 +15,15 @@ enum-known-reading-2 : tie.Need-enum-known-reading-2
 enum-known-reading-2 c = search needs
 
 returns : tie.Need-returns
-unfolding brought
 returns c =
-    let given = c .before .before .before .before .before .before .before .args in
-    bringing (λ n. Arrived (given .controller) (given .identifier) n) 3 (λ n. refl) (c .before .before .before .before .before .word .ensures) (c .before .before .before .bytes .ensures) (c .before .reading .given .1)
+    let given = c .before .before .before .before .before .before .args in
+    bringing (λ n. Arrived (given .controller) (given .identifier) n) (given .text .now) (c .before .before .before .bytes .ensures) (c .before .reading .given .1)
 
 returns-2 : tie.Need-returns-2
-unfolding brought
 returns-2 c =
-    let given = c .before .before .before .before .before .before .before .args in
-    bringing (λ n. Arrived (given .controller) (given .identifier) n) 3 (λ n. refl) (c .before .before .before .before .before .word .ensures) (c .before .before .before .bytes .ensures) (c .before .reading2 .given .1)
+    let given = c .before .before .before .before .before .before .args in
+    bringing (λ n. Arrived (given .controller) (given .identifier) n) (given .text .now) (c .before .before .before .bytes .ensures) (c .before .reading2 .given .1)
 
 pub arrived-frame-spec : {M : Type 1} → statement M
 arrived-frame-spec =
-    tie.close
-    (tie.spec
-    word-requires
-    bytes-requires
-    enum-known-reading
-    enum-known-reading-2
-    returns
-    returns-2)
+    tie.close (tie.spec bytes-requires enum-known-reading enum-known-reading-2 returns returns-2)

@@ -1,4 +1,4 @@
--- `bench_script::command::memory` meets its contract: the command is made of the number that word 1 says, up to the limit.
+-- `bench_script::command::memory` meets its contract: the command is made of the number that the first word says, up to the limit.
 use Prim.Native.Nat.{ℕ}
 use mathlib.Core.Path.{ap, _∙_}
 use mathlib.Core.List.{List}
@@ -10,8 +10,8 @@ use borrow.Author.Needs.{needs}
 use Rattle.bench_script.proofs.command.memory.Statement.{statement}
 use Rattle.bench_script.proofs.command.memory.Tie as tie
 
-word-requires : tie.Need-word-requires
-word-requires c κs = search needs
+first-requires : tie.Need-first-requires
+first-requires c κs = search needs
 
 cast-limited : tie.Need-cast-limited
 cast-limited c = search needs
@@ -28,20 +28,20 @@ enum-known-reading-2 c = search needs
 returns : tie.Need-returns
 returns c =
     made (λ n. Memory n)
-    (c .before .before .before .limited .ensures ∙ ap (λ (w : List ℕ). limited-to largest-memory MemoryTooLong (number-of w)) (c .before .before .before .before .word .ensures))
+    (c .before .before .before .limited .ensures ∙ ap (λ (w : List ℕ). limited-to largest-memory MemoryTooLong (number-of w)) (c .before .before .before .before .first .ensures))
     (c .before .reading .given .1)
 
 returns-2 : tie.Need-returns-2
 returns-2 c =
     made (λ n. Memory n)
-    (c .before .before .before .limited .ensures ∙ ap (λ (w : List ℕ). limited-to largest-memory MemoryTooLong (number-of w)) (c .before .before .before .before .word .ensures))
+    (c .before .before .before .limited .ensures ∙ ap (λ (w : List ℕ). limited-to largest-memory MemoryTooLong (number-of w)) (c .before .before .before .before .first .ensures))
     (c .before .reading2 .given .1)
 
 pub memory-spec : {M : Type 1} → statement M
 memory-spec =
     tie.close
     (tie.spec
-    word-requires
+    first-requires
     cast-limited
     limited-requires
     enum-known-reading

@@ -1,40 +1,18 @@
 -- `bench_script::command::named` meets its contract: each arm reads the words of its name. Only init, write and arrived bring bytes.
 use Prim.Native.Nat.{ℕ}
 use mathlib.Core.Path.{_≡_, refl, sym, ap, _∙_}
-use mathlib.Core.List.{List, []}
-use Rattle.laws.proofs.Tests.{cond-map, cond-same}
-use Rattle.bench_words.specs.Split.{word}
-use Rattle.bench_words.specs.Reading.{number-of, mode-of, limited-to, largest-sheet, largest-memory}
-use Rattle.bench_words.specs.declared.reading.Trouble.the-variants.{SheetTooLong, MemoryTooLong}
-use Rattle.bench_script.specs.Command.{with-value, of-number, named, set-of, set-mode-of, poll-of, brought, CommandRead}
+use mathlib.Core.List.{List}
+use Rattle.bench_script.specs.Command.{named, poll-of, CommandRead}
 use Rattle.bench_script.specs.declared.name.Name.{Name}
-use Rattle.bench_script.specs.declared.command.Numbered.the-variants as numbered
 use Rattle.bench_script.specs.declared.command.Command.{Command}
-use Rattle.bench_script.specs.declared.command.Command.the-variants.{Set, Sheet, Memory}
-use Rattle.bench_script.proofs.Made.{silent, quiet}
+use Rattle.bench_script.proofs.Made.{quiet}
 use borrow.Author.Needs.{needs}
 use Rattle.bench_script.proofs.command.named.Statement.{statement}
 use Rattle.bench_script.proofs.command.named.Tie as tie
 
 -- an arm: the name is known
-module _ {name known : Name} {line before : List ℕ} {r : Command} (told : name ≡ known) where
-  arm : {after : List ℕ} → CommandRead (named known line) line before after r → CommandRead (named name line) line before after r
-  arm read = record { command-is = read .command-is ∙ ap (λ (n : Name). named n line) (sym told); bytes-are = read .bytes-are }
-
-  quiet-arm : r ≡ named known line → brought (named known line) line ≡ [] → CommandRead (named name line) line before before r
-  quiet-arm e none = arm (silent e (ap (λ (r : Command). brought r line) e ∙ none))
-
--- the other names bring no bytes, whatever their words say
-number-quiet : (make : ℕ → Command) (line : List ℕ) → ((n : ℕ) → brought (make n) line ≡ []) → brought (with-value (number-of (word 1 line)) make) line ≡ []
-number-quiet make line none = quiet (number-of (word 1 line)) make line none
-
-set-quiet : (line : List ℕ) → brought (set-of line) line ≡ []
-unfolding brought
-set-quiet line = number-quiet (λ c. set-mode-of c line) line (λ c. quiet (mode-of (word 2 line)) (λ m. Set c m) line (λ m. refl))
-
-poll-quiet : (w line : List ℕ) → brought (poll-of w) line ≡ []
-unfolding poll-of brought
-poll-quiet w line = simp (cond-map (λ (r : Command). brought r line), cond-same)
+arm : {name known : Name} (text : List ℕ) {before after : List ℕ} {r : Command} → name ≡ known → CommandRead (named known text) before after r → CommandRead (named name text) before after r
+arm text told read = rw told read
 
 enum-told : tie.Need-enum-told
 enum-told c = search needs
@@ -66,8 +44,8 @@ write-requires c κs = search needs
 enum-told-6 : tie.Need-enum-told-6
 enum-told-6 c = search needs
 
-word-requires : tie.Need-word-requires
-word-requires c κs = search needs
+first-requires : tie.Need-first-requires
+first-requires c κs = search needs
 
 poll-requires : tie.Need-poll-requires
 poll-requires c κs = search needs
@@ -120,69 +98,85 @@ enum-told-14 c = search needs
 enum-told-15 : tie.Need-enum-told-15
 enum-told-15 c = search needs
 
+controllers-requires : tie.Need-controllers-requires
+controllers-requires c κs = search needs
+
+enum-told-16 : tie.Need-enum-told-16
+enum-told-16 c = search needs
+
+object-requires : tie.Need-object-requires
+object-requires c κs = search needs
+
+enum-told-17 : tie.Need-enum-told-17
+enum-told-17 c = search needs
+
 returns : tie.Need-returns
-unfolding named brought
-returns c = arm (c .before .before .enum-told .given .1) (c .init .ensures)
+unfolding named
+returns c = arm (c .before .before .before .before .before .args .text .now) (c .before .before .enum-told .given .1) (c .init .ensures)
 
 returns-2 : tie.Need-returns-2
-unfolding named brought
-returns-2 c = quiet-arm (c .enum-told2 .given .1) refl refl
+unfolding named
+returns-2 c = arm (c .before .before .before .args .text .now) (c .enum-told2 .given .1) (quiet refl)
 
 returns-3 : tie.Need-returns-3
-unfolding named brought
-returns-3 c = quiet-arm (c .before .enum-told3 .given .1) (c .set .ensures) (set-quiet _)
+unfolding named
+returns-3 c = arm (c .before .before .before .before .args .text .now) (c .before .enum-told3 .given .1) (quiet (c .set .ensures))
 
 returns-4 : tie.Need-returns-4
-unfolding named brought
-returns-4 c = quiet-arm (c .before .enum-told4 .given .1) (c .with-number .ensures) (number-quiet (of-number numbered.Get) _ (λ n. refl))
+unfolding named
+returns-4 c = arm (c .before .before .before .before .args .text .now) (c .before .enum-told4 .given .1) (quiet (c .with-number .ensures))
 
 returns-5 : tie.Need-returns-5
-unfolding named brought
-returns-5 c = arm (c .before .before .enum-told5 .given .1) (c .write .ensures)
+unfolding named
+returns-5 c = arm (c .before .before .before .before .before .args .text .now) (c .before .before .enum-told5 .given .1) (c .write .ensures)
 
 returns-6 : tie.Need-returns-6
-unfolding named brought
-returns-6 c = quiet-arm (c .before .before .enum-told6 .given .1) (c .poll .ensures ∙ ap poll-of (c .before .word .ensures)) (poll-quiet _ _)
+unfolding named
+returns-6 c = arm (c .before .before .before .before .before .args .text .now) (c .before .before .enum-told6 .given .1) (quiet (c .poll .ensures ∙ ap poll-of (c .before .first .ensures)))
 
 returns-7 : tie.Need-returns-7
-unfolding named brought
-returns-7 c = quiet-arm (c .before .enum-told7 .given .1) (c .with-number2 .ensures) (number-quiet (of-number numbered.Sent) _ (λ n. refl))
+unfolding named
+returns-7 c = arm (c .before .before .before .before .args .text .now) (c .before .enum-told7 .given .1) (quiet (c .with-number2 .ensures))
 
 returns-8 : tie.Need-returns-8
-unfolding named brought
-returns-8 c = quiet-arm (c .before .enum-told8 .given .1) (c .with-number3 .ensures) (number-quiet (of-number numbered.BusOff) _ (λ n. refl))
+unfolding named
+returns-8 c = arm (c .before .before .before .before .args .text .now) (c .before .enum-told8 .given .1) (quiet (c .with-number3 .ensures))
 
 returns-9 : tie.Need-returns-9
-unfolding named brought
-returns-9 c = arm (c .before .before .enum-told9 .given .1) (c .arrived .ensures)
+unfolding named
+returns-9 c = arm (c .before .before .before .before .before .args .text .now) (c .before .before .enum-told9 .given .1) (c .arrived .ensures)
 
 returns-10 : tie.Need-returns-10
-unfolding named brought
-returns-10 c = quiet-arm (c .before .enum-told10 .given .1) (c .with-number4 .ensures) (number-quiet (of-number numbered.Data) _ (λ n. refl))
+unfolding named
+returns-10 c = arm (c .before .before .before .before .args .text .now) (c .before .enum-told10 .given .1) (quiet (c .with-number4 .ensures))
 
 returns-11 : tie.Need-returns-11
-unfolding named brought
-returns-11 c =
-    let line = c .before .before .before .before .args .line .now in
-    quiet-arm (c .before .enum-told11 .given .1) (c .sheet .ensures) (quiet (limited-to largest-sheet SheetTooLong (number-of (word 1 line))) (λ n. Sheet n) line (λ n. refl))
+unfolding named
+returns-11 c = arm (c .before .before .before .before .args .text .now) (c .before .enum-told11 .given .1) (quiet (c .sheet .ensures))
 
 returns-12 : tie.Need-returns-12
-unfolding named brought
-returns-12 c =
-    let line = c .before .before .before .before .args .line .now in
-    quiet-arm (c .before .enum-told12 .given .1) (c .memory .ensures) (quiet (limited-to largest-memory MemoryTooLong (number-of (word 1 line))) (λ n. Memory n) line (λ n. refl))
+unfolding named
+returns-12 c = arm (c .before .before .before .before .args .text .now) (c .before .enum-told12 .given .1) (quiet (c .memory .ensures))
 
 returns-13 : tie.Need-returns-13
-unfolding named brought
-returns-13 c = quiet-arm (c .before .enum-told13 .given .1) (c .with-number5 .ensures) (number-quiet (of-number numbered.Show) _ (λ n. refl))
+unfolding named
+returns-13 c = arm (c .before .before .before .before .args .text .now) (c .before .enum-told13 .given .1) (quiet (c .with-number5 .ensures))
 
 returns-14 : tie.Need-returns-14
-unfolding named brought
-returns-14 c = quiet-arm (c .enum-told14 .given .1) refl refl
+unfolding named
+returns-14 c = arm (c .before .before .before .args .text .now) (c .enum-told14 .given .1) (quiet refl)
 
 returns-15 : tie.Need-returns-15
-unfolding named brought
-returns-15 c = quiet-arm (c .enum-told15 .given .1) refl refl
+unfolding named
+returns-15 c = arm (c .before .before .before .before .args .text .now) (c .before .enum-told15 .given .1) (quiet (c .controllers .ensures))
+
+returns-16 : tie.Need-returns-16
+unfolding named
+returns-16 c = arm (c .before .before .before .before .args .text .now) (c .before .enum-told16 .given .1) (quiet (c .object .ensures))
+
+returns-17 : tie.Need-returns-17
+unfolding named
+returns-17 c = arm (c .before .before .before .args .text .now) (c .enum-told17 .given .1) (quiet refl)
 
 pub named-spec : {M : Type 1} → statement M
 named-spec =
@@ -198,7 +192,7 @@ named-spec =
     enum-told-5
     write-requires
     enum-told-6
-    word-requires
+    first-requires
     poll-requires
     enum-told-7
     with-number-requires-2
@@ -216,6 +210,10 @@ named-spec =
     with-number-requires-5
     enum-told-14
     enum-told-15
+    controllers-requires
+    enum-told-16
+    object-requires
+    enum-told-17
     returns
     returns-2
     returns-3
@@ -230,4 +228,6 @@ named-spec =
     returns-12
     returns-13
     returns-14
-    returns-15)
+    returns-15
+    returns-16
+    returns-17)

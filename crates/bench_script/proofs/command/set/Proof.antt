@@ -1,5 +1,6 @@
--- `bench_script::command::set` meets its contract: word 1 says the controller, and the mode is read behind it.
+-- `bench_script::command::set` meets its contract: the first word says the controller, and the mode is read behind it.
 use mathlib.Core.Path.{ap, _∙_}
+use Rattle.bench_words.specs.Split.{after}
 use Rattle.bench_words.specs.Reading.{number-of}
 use Rattle.bench_script.specs.Command.{set-mode-of}
 use Rattle.bench_script.proofs.Made.{made}
@@ -7,8 +8,8 @@ use borrow.Author.Needs.{needs}
 use Rattle.bench_script.proofs.command.set.Statement.{statement}
 use Rattle.bench_script.proofs.command.set.Tie as tie
 
-word-requires : tie.Need-word-requires
-word-requires c κs = search needs
+first-requires : tie.Need-first-requires
+first-requires c κs = search needs
 
 number-requires : tie.Need-number-requires
 number-requires c κs = search needs
@@ -19,25 +20,30 @@ enum-known-controller c = search needs
 enum-known-controller-2 : tie.Need-enum-known-controller-2
 enum-known-controller-2 c = search needs
 
+after-requires : tie.Need-after-requires
+after-requires c κs = search needs
+
 set-to-requires : tie.Need-set-to-requires
 set-to-requires c κs = search needs
 
 returns : tie.Need-returns
-returns c = made (λ n. set-mode-of n (c .before .before .before .before .before .before .args .line .now)) (c .before .before .before .number .ensures ∙ ap number-of (c .before .before .before .before .word .ensures)) (c .before .controller .given .1)
+returns c = made (λ n. set-mode-of n (after (c .before .before .before .before .before .before .args .text .now))) (c .before .before .before .number .ensures ∙ ap number-of (c .before .before .before .before .first .ensures)) (c .before .controller .given .1)
 
 returns-2 : tie.Need-returns-2
 returns-2 c =
     c .set-to .ensures
-    ∙ made (λ n. set-mode-of n (c .before .before .before .before .before .before .before .args .line .now)) (c .before .before .before .before .number .ensures ∙ ap number-of (c .before .before .before .before .before .word .ensures)) (c .before .before .controller2 .given .1)
+    ∙ ap (set-mode-of _) (c .before .after .ensures)
+    ∙ made (λ n. set-mode-of n (after (c .before .before .before .before .before .before .before .before .args .text .now))) (c .before .before .before .before .before .number .ensures ∙ ap number-of (c .before .before .before .before .before .before .first .ensures)) (c .before .before .before .controller2 .given .1)
 
 pub set-spec : {M : Type 1} → statement M
 set-spec =
     tie.close
     (tie.spec
-    word-requires
+    first-requires
     number-requires
     enum-known-controller
     enum-known-controller-2
+    after-requires
     set-to-requires
     returns
     returns-2)

@@ -1,4 +1,4 @@
--- `bench_script::command::with_number` meets its contract: the command is made of the number that word 1 says.
+-- `bench_script::command::with_number` meets its contract: the command is made of the number that the first word says.
 use mathlib.Core.Path.{ap, _∙_}
 use Rattle.bench_words.specs.Reading.{number-of}
 use Rattle.bench_script.specs.Command.{of-number}
@@ -7,8 +7,8 @@ use borrow.Author.Needs.{needs}
 use Rattle.bench_script.proofs.command.with_number.Statement.{statement}
 use Rattle.bench_script.proofs.command.with_number.Tie as tie
 
-word-requires : tie.Need-word-requires
-word-requires c κs = search needs
+first-requires : tie.Need-first-requires
+first-requires c κs = search needs
 
 number-requires : tie.Need-number-requires
 number-requires c κs = search needs
@@ -23,19 +23,18 @@ of-number-requires : tie.Need-of-number-requires
 of-number-requires c κs = search needs
 
 returns : tie.Need-returns
-returns c =
-    made (of-number (c .before .before .before .before .before .before .args .what)) (c .before .before .before .number .ensures ∙ ap number-of (c .before .before .before .before .word .ensures)) (c .before .reading .given .1)
+returns c = made (of-number (c .before .before .before .before .before .before .args .what)) (c .before .before .before .number .ensures ∙ ap number-of (c .before .before .before .before .first .ensures)) (c .before .reading .given .1)
 
 returns-2 : tie.Need-returns-2
 returns-2 c =
     c .of-number .ensures
-    ∙ made (of-number (c .before .before .before .before .before .before .before .args .what)) (c .before .before .before .before .number .ensures ∙ ap number-of (c .before .before .before .before .before .word .ensures)) (c .before .before .reading2 .given .1)
+    ∙ made (of-number (c .before .before .before .before .before .before .before .args .what)) (c .before .before .before .before .number .ensures ∙ ap number-of (c .before .before .before .before .before .first .ensures)) (c .before .before .reading2 .given .1)
 
 pub with-number-spec : {M : Type 1} → statement M
 with-number-spec =
     tie.close
     (tie.spec
-    word-requires
+    first-requires
     number-requires
     enum-known-reading
     enum-known-reading-2

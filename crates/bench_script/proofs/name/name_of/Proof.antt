@@ -105,9 +105,23 @@ slice-aggregate-named-or-14 c = search needs
 named-or-requires-14 : tie.Need-named-or-requires-14
 named-or-requires-14 c κs = search needs
 
+slice-aggregate-named-or-15 : tie.Need-slice-aggregate-named-or-15
+slice-aggregate-named-or-15 c = search needs
+
+named-or-requires-15 : tie.Need-named-or-requires-15
+named-or-requires-15 c κs = search needs
+
+slice-aggregate-named-or-16 : tie.Need-slice-aggregate-named-or-16
+slice-aggregate-named-or-16 c = search needs
+
+named-or-requires-16 : tie.Need-named-or-requires-16
+named-or-requires-16 c κs = search needs
+
 returns : tie.Need-returns
 returns c =
-    let c13 = c .before .before in
+    let c15 = c .before .before in
+    let c14 = c15 .before .before in
+    let c13 = c14 .before .before in
     let c12 = c13 .before .before in
     let c11 = c12 .before .before in
     let c10 = c11 .before .before in
@@ -121,7 +135,9 @@ returns c =
     let c2 = c3 .before .before in
     let c1 = c2 .before .before in
     among
-    (test (c .named-or14 .ensures)
+    (test (c .named-or16 .ensures)
+    (test (c15 .named-or15 .ensures)
+    (test (c14 .named-or14 .ensures)
     (test (c13 .named-or13 .ensures)
     (test (c12 .named-or12 .ensures)
     (test (c11 .named-or11 .ensures)
@@ -134,7 +150,7 @@ returns c =
     (test (c4 .named-or4 .ensures)
     (test (c3 .named-or3 .ensures)
     (test (c2 .named-or2 .ensures)
-    (test (c1 .named-or .ensures) none))))))))))))))
+    (test (c1 .named-or .ensures) none))))))))))))))))
 
 pub name-of-spec : {M : Type 1} → statement M
 name-of-spec =
@@ -168,4 +184,8 @@ name-of-spec =
     named-or-requires-13
     slice-aggregate-named-or-14
     named-or-requires-14
+    slice-aggregate-named-or-15
+    named-or-requires-15
+    slice-aggregate-named-or-16
+    named-or-requires-16
     returns)

@@ -2,7 +2,6 @@
 -- store makes the run longer by one.
 use Prim.Native.Nat.{_-_, _/_, _≤_}
 use mathlib.Core.Path.{_≡_, refl, sym}
-use native.Mathlib.Nat.{zero-add}
 use native.Mathlib.Omega.{arith}
 use native.Mathlib.Numerals.{add-one}
 use lib.ListN.{length, length-set}
@@ -16,14 +15,14 @@ use Rattle.bench_words.proofs.bytes.put_pairs.Statement.{statement}
 use Rattle.bench_words.proofs.bytes.put_pairs.Tie as tie
 
 abbrev Inv-loop : tie.InvT-loop
-Inv-loop word out₀ i₀ out i = (i ≤ length word / 2) × (length out ≡ length out₀) × (out ≡ splice 0 (list-below i (pair-at word)) out₀)
+Inv-loop word out₀ at i₀ out i = (i ≤ length word / 2) × (length out ≡ length out₀) × (out ≡ splice at (list-below i (pair-at word)) out₀)
 
 abbrev μ-loop : tie.MeasureT-loop
-μ-loop word out₀ i₀ out i = length word / 2 - i
+μ-loop word out₀ at i₀ out i = length word / 2 - i
 
 loop-holds : tie.Need-loop-holds Inv-loop μ-loop
 unfolding list-below
-loop-holds c = (omega arith, refl, sym (splice-nil 0 (c .before .before .args .out .now)))
+loop-holds c = (omega arith, refl, sym (splice-nil (c .before .before .args .at) (c .before .before .args .out .now)))
 
 mul-pair : tie.Need-mul-pair Inv-loop μ-loop
 mul-pair c = omega arith
@@ -43,6 +42,9 @@ shared-slice-read-pair-2 c = omega arith
 pair-requires : tie.Need-pair-requires Inv-loop μ-loop
 pair-requires c κs = search needs
 
+add-out : tie.Need-add-out Inv-loop μ-loop
+add-out c = search needs
+
 slice-write-out : tie.Need-slice-write-out Inv-loop μ-loop
 slice-write-out c = omega arith
 
@@ -61,7 +63,7 @@ loop-again c =
       omega arith,
       simp length-set (at .loop .inv .1),
       rw (at .loop .inv .2, c .pair .ensures, add-one (at .loop .i))
-          (rw zero-add at (splice-more 0 (at .loop .i) run (given .out .now) (pair-at (given .word .now) (at .loop .i)) (length-list-below (at .loop .i) (pair-at (given .word .now))) (omega arith))),
+          (splice-more (given .at) (at .loop .i) run (given .out .now) (pair-at (given .word .now) (at .loop .i)) (length-list-below (at .loop .i) (pair-at (given .word .now))) (omega arith)),
     )
 
 same-length : tie.Need-same-length Inv-loop μ-loop
@@ -87,6 +89,7 @@ put-pairs-spec =
     add-pair
     shared-slice-read-pair-2
     pair-requires
+    add-out
     slice-write-out
     add-i
     loop-less

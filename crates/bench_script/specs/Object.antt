@@ -1,0 +1,77 @@
+-- An object of a configuration in words: what stands behind `object`.
+use Prim.Native.Nat.{ℕ, _-_}
+use mathlib.Core.Bool.{not, cond}
+use mathlib.Core.List.{List, [], _∷_}
+use Rattle.rules.specs.Bytes.{same-bytes}
+use Rattle.bench_words.specs.Split.{is-missing, first, after}
+use Rattle.bench_words.specs.Reading.{number-of, limited-to, identifier-of, one-byte-of, largest-byte}
+use Rattle.bench_script.specs.With.{with-value}
+use Rattle.bench_words.specs.declared.reading.Trouble.the-variants.{WordMissing, WordTooMany, ByteTooLarge, UnexpectedWord, UnknownKind}
+use Rattle.bench_words.specs.declared.reading.Reading.{Reading}
+use Rattle.bench_words.specs.declared.reading.Reading.the-variants as readings
+use Rattle.bench_script.specs.declared.object.Value.{Value}
+use Rattle.bench_script.specs.declared.object.Value.the-variants.{Number, Byte, Identifier}
+use Rattle.bench_script.specs.declared.command.Command.{Command}
+use Rattle.bench_script.specs.declared.command.Command.the-variants.{Send, Receive, Unreadable}
+
+-- a number that fits a byte, a byte of two digits, or an identifier
+abbrev pub value-of : Value → List ℕ → Reading
+value-of Number w = limited-to largest-byte ByteTooLarge (number-of w)
+value-of Byte w = one-byte-of w
+value-of Identifier w = identifier-of w
+
+-- a fixed word, and the value behind it
+abbrev pub field-of : List ℕ → Value → List ℕ → Reading
+field-of keyword value text =
+    cond (same-bytes (first text) keyword) (value-of value (first (after text))) (readings.Unreadable UnexpectedWord)
+
+abbrev pub behind-field : List ℕ → List ℕ
+behind-field text = after (after text)
+
+-- the fixed words
+abbrev pub controller-word : List ℕ
+controller-word = 99 ∷ 111 ∷ 110 ∷ 116 ∷ 114 ∷ 111 ∷ 108 ∷ 108 ∷ 101 ∷ 114 ∷ []
+
+abbrev pub payload-word : List ℕ
+payload-word = 112 ∷ 97 ∷ 121 ∷ 108 ∷ 111 ∷ 97 ∷ 100 ∷ []
+
+abbrev pub padding-word : List ℕ
+padding-word = 112 ∷ 97 ∷ 100 ∷ 100 ∷ 105 ∷ 110 ∷ 103 ∷ []
+
+abbrev pub code-word : List ℕ
+code-word = 99 ∷ 111 ∷ 100 ∷ 101 ∷ []
+
+abbrev pub mask-word : List ℕ
+mask-word = 109 ∷ 97 ∷ 115 ∷ 107 ∷ []
+
+-- the first trouble from left to right
+abbrev pub send-made : Reading → Reading → Reading → Command
+send-made controller payload padding =
+    with-value controller (λ c. with-value payload (λ p. with-value padding (λ x. Send c p x)))
+
+abbrev pub receive-made : Reading → Reading → Reading → Reading → Command
+receive-made controller payload code mask =
+    with-value controller (λ c. with-value payload (λ p. with-value code (λ i. with-value mask (λ m. Receive c p i m))))
+
+-- controller C payload P padding XX
+abbrev pub send-of : List ℕ → Command
+send-of text =
+    send-made (field-of controller-word Number text) (field-of payload-word Number (behind-field text))
+    (field-of padding-word Byte (behind-field (behind-field text)))
+
+-- controller C payload P code ID mask ID
+abbrev pub receive-of : List ℕ → Command
+receive-of text =
+    receive-made (field-of controller-word Number text) (field-of payload-word Number (behind-field text))
+    (field-of code-word Identifier (behind-field (behind-field text))) (field-of mask-word Identifier (behind-field (behind-field (behind-field text))))
+
+-- just so many words
+abbrev pub sized : ℕ → List ℕ → Command → Command
+sized count text command =
+    cond (is-missing (count - 1) text) (Unreadable WordMissing) (cond (not (is-missing count text)) (Unreadable WordTooMany) command)
+
+-- send .. or receive ..
+unfoldable pub object-of : List ℕ → Command
+object-of text =
+    cond (same-bytes (first text) (115 ∷ 101 ∷ 110 ∷ 100 ∷ [])) (sized 6 (after text) (send-of (after text)))
+    (cond (same-bytes (first text) (114 ∷ 101 ∷ 99 ∷ 101 ∷ 105 ∷ 118 ∷ 101 ∷ [])) (sized 8 (after text) (receive-of (after text))) (Unreadable UnknownKind))

@@ -1,0 +1,3 @@
+-- Laws that proofs of this crate cite, and the theorem.
+pub mod Laws
+pub mod Exactly

@@ -1,0 +1,32 @@
+// The rules of a configuration's bytes, and what is found broken.
+
+// A rule of the configuration's bytes; Accepted where none is broken.
+pub enum Rule {
+    Accepted,
+    // The header, byte by byte, and the total.
+    Mark,
+    Version,
+    Controllers,
+    Objects,
+    ZeroByte,
+    Size,
+    // Any record.
+    Controller,
+    Kind,
+    Payload,
+    // The record of a sending object.
+    SendingCode,
+    SendingMask,
+    // The record of a receiving object.
+    ReceivingPadding,
+    CodeBits,
+    MaskBits,
+    StandardCode,
+    StandardMask,
+}
+
+// The first rule that is broken, and by which object's record; 0 where it is a rule of the header or of the whole.
+pub struct Fault {
+    pub rule: Rule,
+    pub object: usize,
+}

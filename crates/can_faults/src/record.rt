@@ -1,0 +1,92 @@
+// The rules of one object's record.
+ghost use mathlib.Core.Path.{_≡_};
+ghost use Prim.Native.Nat.{_+_, _*_, _≤_};
+ghost use lib.ListN.{length};
+ghost use Rattle.rules.specs.Configuration.{header-size, object-record};
+ghost use Rattle.rules.specs.Can.{can-format};
+ghost use Rattle.rules.specs.Chip as rules;
+ghost use Rattle.core_places.specs.View.{view-owner};
+ghost use Rattle.can_state.specs.View.{view-settings};
+ghost use Rattle.can_faults.specs.Fault.{first-broken, sending-rules, receiving-rules, rules-of, record-rule};
+use crate::fault::Rule;
+use can_config::header::HEADER_SIZE;
+use can_config::record::RECORD_SIZE;
+use can_config::record::record_owner;
+use can_config::record::record_settings;
+use can_frame::identifier::EXTENDED_ONLY;
+use can_frame::identifier::is_extended;
+use can_frame::length::LONGEST_CLASSIC;
+use can_frame::length::LONGEST_FD;
+use can_frame::settings::CODE_UNUSED;
+use can_frame::settings::MASK_UNUSED;
+use can_state::settings::Settings;
+use core_places::owner::Owner;
+use core_places::owner::owner_valid;
+
+// The first rule of a sending object that is broken.
+fn sending_rule(s: Settings) -> Rule
+    ensures { λ r. ⌜ r ≡ first-broken (sending-rules (view-settings s)) ⌝ }
+{
+    if s.code != 0 {
+        return Rule::SendingCode;
+    }
+    if s.mask != 0 {
+        return Rule::SendingMask;
+    }
+    Rule::Accepted
+}
+
+// The first rule of a receiving object that is broken.
+fn receiving_rule(s: Settings) -> Rule
+    ensures { λ r. ⌜ r ≡ first-broken (receiving-rules (view-settings s)) ⌝ }
+{
+    if s.padding != 0 {
+        return Rule::ReceivingPadding;
+    }
+    if s.code & CODE_UNUSED != 0 {
+        return Rule::CodeBits;
+    }
+    if s.mask & MASK_UNUSED != 0 {
+        return Rule::MaskBits;
+    }
+    let extended = is_extended(s.code);
+    if !(extended | (s.code & EXTENDED_ONLY == 0)) {
+        return Rule::StandardCode;
+    }
+    if !(extended | (s.mask & EXTENDED_ONLY == 0)) {
+        return Rule::StandardMask;
+    }
+    Rule::Accepted
+}
+
+// The first rule that is broken by a record that says this.
+fn rule_of(controller_count: usize, owner: Owner, kind: u8, settings: Settings) -> Rule
+    ensures { λ r. ⌜ r ≡ first-broken (rules-of «controller_count» (view-owner owner) kind (view-settings settings)) ⌝ }
+{
+    if !owner_valid(controller_count, owner) {
+        return Rule::Controller;
+    }
+    if 1 < kind {
+        return Rule::Kind;
+    }
+    let payload = settings.payload as u32;
+    if !((payload == LONGEST_CLASSIC) | (payload == LONGEST_FD)) {
+        return Rule::Payload;
+    }
+    if owner.receiving {
+        receiving_rule(settings)
+    } else {
+        sending_rule(settings)
+    }
+}
+
+// The first rule that is broken by the record of object h, which the bytes hold whole.
+pub fn record_rule(bytes: &[u8], controller_count: usize, h: usize) -> Rule
+    requires { ⌜ header-size + can-format .record-size * h + can-format .record-size ≤ length (now bytes) ⌝ }
+    ensures { λ r. ⌜ r ≡ record-rule «controller_count» (object-record rules.chip can-format (now (bytes .entry)) h) ⌝ }
+{
+    let at = HEADER_SIZE + RECORD_SIZE * h;
+    let owner = record_owner(bytes, at);
+    let settings = record_settings(bytes, at);
+    rule_of(controller_count, owner, bytes[at + 1], settings)
+}
