@@ -8,6 +8,7 @@ use crate::heard::sought;
 use crate::line;
 use crate::night;
 use crate::night::CANCELLED_AT;
+use crate::night::Desk;
 use crate::night::Night;
 use crate::night::OUT_ROOM;
 use crate::night::OUTPUT;
@@ -26,6 +27,7 @@ use bench_words::bytes::LONGEST_LINE;
 use bench_words::bytes::MOST_BYTES;
 use bench_words::split::between;
 use can::RAM_SIZE;
+use can::State;
 use libc::STDOUT_FILENO;
 
 // A line, and the CR before its LF or the byte that makes a line too long.
@@ -45,25 +47,56 @@ fn empty_book() -> [u64; book::ROOM]
 }
 
 // Writes a part of the output buffer. Where that fails the night is stopped.
-fn written_part(night: Night, out: &[u8], from: usize, to: usize) -> Night {
+fn written_part(desk: Desk, out: &[u8], from: usize, to: usize) -> Desk {
     let done = io::write_all(STDOUT_FILENO, between(out, from, to));
-    let mut next = night;
+    let mut next = desk;
     next.at = 0;
-    next.stuck = night.stuck | !done;
+    next.stuck = desk.stuck | !done;
     next
 }
 
 // Writes what stands in the output buffer before the lists.
-fn written(night: Night, out: &[u8]) -> Night {
-    written_part(night, out, 0, night.at)
+fn written(desk: Desk, out: &[u8]) -> Desk {
+    written_part(desk, out, 0, desk.at)
 }
 
 // The same once it is half full: the answer to a line takes less than the other half.
 fn written_if_full(night: Night, out: &[u8]) -> Night {
-    if night.at < OUTPUT / 2 {
+    let desk = night.desk;
+    if desk.at < OUTPUT / 2 {
         return night;
     }
-    written(night, out)
+    let state = night.state;
+    let next = written(desk, out);
+    Night {
+        state: state,
+        desk: next,
+    }
+}
+
+// The same before a step that reads.
+fn written_if_reading(night: Night, reads: bool, out: &[u8]) -> Night {
+    if !reads {
+        return night;
+    }
+    let state = night.state;
+    let desk = night.desk;
+    let next = written(desk, out);
+    Night {
+        state: state,
+        desk: next,
+    }
+}
+
+// The night at a line.
+fn at_line(night: Night, line: u64) -> Night {
+    let state = night.state;
+    let mut desk = night.desk;
+    desk.line = line;
+    Night {
+        state: state,
+        desk: desk,
+    }
 }
 
 // Plays the line that is read, if it says something.
@@ -83,9 +116,16 @@ fn played(
     }
     let reader = heard.reader;
     let end = of_bytes(reader.count, line);
-    let mut next = night;
-    next.line = heard.lines;
-    next = line::play(next, &line[..end], memory, sheet, bytes, draft, out, book);
+    let next = line::play(
+        at_line(night, heard.lines),
+        &line[..end],
+        memory,
+        sheet,
+        bytes,
+        draft,
+        out,
+        book,
+    );
     written_if_full(next, out)
 }
 
@@ -107,12 +147,10 @@ fn step(
     out: &mut [u8; OUT_ROOM],
     book: &mut [u64; book::ROOM],
 ) -> Playing {
-    let mut night = playing.night;
+    let last = playing.night;
     let before = playing.heard;
     let reader = before.reader;
-    if will_read(reader, input) {
-        night = written(night, out);
-    }
+    let mut night = written_if_reading(last, will_read(reader, input), out);
     let heard = sought(before, input, line);
     night = played(night, heard, line, memory, sheet, bytes, draft, out, book);
     Playing {
@@ -126,7 +164,8 @@ fn is_over(playing: Playing) -> bool {
     let heard = playing.heard;
     let reader = heard.reader;
     let night = playing.night;
-    reader.ended | night.stuck
+    let desk = night.desk;
+    reader.ended | desk.stuck
 }
 
 // Plays the script to its end. Nothing says that an input ends, so the steps are counted down, from more than there can be.
@@ -161,61 +200,82 @@ fn start(plain: bool) -> Playing {
 }
 
 // Writes the totals of a night behind what stands in the output buffer, the frames that still wait, and the heading of the first list.
-fn summed_up(night: Night, ram: &[u8], out: &mut [u8], book: &[u64]) -> Night {
-    let state = night.state;
-    let mut last = night;
-    last.at = summary::totals(out, night.at, book, night);
+fn summed_up(state: State, desk: Desk, ram: &[u8], out: &mut [u8], book: &[u64]) -> Desk {
+    let mut last = desk;
+    last.at = summary::totals(out, desk.at, book, desk.unreadable);
     last.at = waiting::list(out, last.at, state, book, ram);
     last.at = summary::taken_heading(out, last.at, book);
     written(last, out)
 }
 
 // Writes the list of frames that a bus-off took, and the heading of the second list.
-fn taken_listed(night: Night, out: &mut [u8], book: &[u64]) -> Night {
-    let lists = night.lists;
-    let mut last = written_part(night, out, TAKEN_AT, lists.taken_at);
+fn taken_listed(desk: Desk, out: &mut [u8], book: &[u64]) -> Desk {
+    let lists = desk.lists;
+    let mut last = written_part(desk, out, TAKEN_AT, lists.taken_at);
     last.at = summary::unlisted(out, 0, lists.taken_unlisted);
     last.at = summary::cancelled_heading(out, last.at, book);
     written(last, out)
 }
 
 // Writes the list of frames that a stop cancelled.
-fn cancelled_listed(night: Night, out: &mut [u8]) -> Night {
-    let lists = night.lists;
-    let mut last = written_part(night, out, CANCELLED_AT, lists.cancelled_at);
+fn cancelled_listed(desk: Desk, out: &mut [u8]) -> Desk {
+    let lists = desk.lists;
+    let mut last = written_part(desk, out, CANCELLED_AT, lists.cancelled_at);
     last.at = summary::unlisted(out, 0, lists.cancelled_unlisted);
     written(last, out)
 }
 
 // `end LINES BAD`: lines read, and lines not understood.
-fn counted(night: Night, lines: u64, out: &mut [u8]) -> Night {
-    let mut last = night;
-    last.at = say(out, night.at, b"end %0 %0\n", two(lines, night.unreadable));
+fn counted(desk: Desk, lines: u64, out: &mut [u8]) -> Desk {
+    let mut last = desk;
+    last.at = say(out, desk.at, b"end %0 %0\n", two(lines, desk.unreadable));
     written(last, out)
 }
 
 // The end of a night in plain words: its totals, the frames that still wait, and those that a bus-off took or a stop cancelled.
-fn told(night: Night, ram: &[u8], out: &mut [u8], book: &[u64]) -> Night {
-    let mut last = summed_up(night, ram, out, book);
+fn told(state: State, desk: Desk, ram: &[u8], out: &mut [u8], book: &[u64]) -> Desk {
+    let mut last = summed_up(state, desk, ram, out, book);
     last = taken_listed(last, out, book);
     cancelled_listed(last, out)
 }
 
 // The end of a night that was played whole.
-fn finished(night: Night, lines: u64, ram: &[u8], out: &mut [u8], book: &[u64]) -> Night {
-    if night.plain {
-        return told(night, ram, out, book);
+fn finished(night: Night, lines: u64, ram: &[u8], out: &mut [u8], book: &[u64]) -> Desk {
+    let state = night.state;
+    let desk = night.desk;
+    if desk.plain {
+        return told(state, desk, ram, out, book);
     }
-    counted(night, lines, out)
+    counted(desk, lines, out)
 }
 
 // Says on standard error what went wrong: the output, or lines that were not understood.
-fn judged(night: Night, lines: u64) {
-    if night.stuck {
+fn judged(desk: Desk, lines: u64) {
+    if desk.stuck {
         report::stopped(b"standard output cannot be written", lines);
         return;
     }
-    report::misunderstood(night, lines);
+    report::misunderstood(desk, lines);
+}
+
+// A night that was played to its end, or whose output could not be written.
+fn closed(
+    night: Night,
+    lines: u64,
+    memory: &[u8],
+    out: &mut [u8; OUT_ROOM],
+    book: &mut [u64; book::ROOM],
+) {
+    let desk = night.desk;
+    if desk.stuck {
+        judged(desk, lines);
+        return;
+    }
+    let own = of_bytes(RAM_SIZE, memory);
+    let state = night.state;
+    book::count_left_over(book, state);
+    let last = finished(night, lines, &memory[..own], out, book);
+    judged(last, lines);
 }
 
 // Ends the night. A script that could not be read to its end has no totals.
@@ -224,19 +284,12 @@ fn ended(playing: Playing, memory: &[u8], out: &mut [u8; OUT_ROOM], book: &mut [
     let heard = playing.heard;
     let reader = heard.reader;
     if reader.failed {
-        written(night, out);
+        let desk = night.desk;
+        written(desk, out);
         report::stopped(b"standard input cannot be read", heard.lines);
         return;
     }
-    if night.stuck {
-        judged(night, heard.lines);
-        return;
-    }
-    let own = of_bytes(RAM_SIZE, memory);
-    let state = night.state;
-    book::count_left_over(book, state);
-    let last = finished(night, heard.lines, &memory[..own], out, book);
-    judged(last, heard.lines);
+    closed(night, heard.lines, memory, out, book);
 }
 
 // Plays the night on standard input, from a fresh bench.

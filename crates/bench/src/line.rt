@@ -7,18 +7,17 @@ use crate::book::set_controllers;
 use crate::book::set_origin;
 use crate::book::set_sent;
 use crate::draft;
+use crate::night::Desk;
 use crate::night::Night;
 use crate::night::more;
 use crate::object::bytes;
 use crate::plain;
-use crate::print::numbered;
 use crate::say::say;
 use crate::say::two;
 use crate::tell;
 use crate::tell::Poll;
 use crate::tell::Told;
 use crate::terse;
-use crate::trouble::message;
 use bench_draft::draft::ROOM;
 use bench_draft::draft::add_receiving;
 use bench_draft::draft::add_sending;
@@ -33,7 +32,6 @@ use bench_requests::request::init;
 use bench_requests::request::request_of;
 use bench_script::command::Command;
 use bench_script::name::name_of;
-use bench_text::put::put;
 use bench_words::bytes::MOST_BYTES;
 use bench_words::reading::Trouble;
 use bench_words::split::word;
@@ -96,7 +94,8 @@ fn note_call(book: &mut [u64], before: State, next: State, request: Request, lin
 
 // The call and its notifications in words; bytes are those that it was given.
 fn in_words(
-    night: Night,
+    state: State,
+    desk: Desk,
     wanted: Wanted,
     bytes: &[u8],
     played: Played,
@@ -105,42 +104,35 @@ fn in_words(
     out: &mut [u8],
     book: &mut [u64],
 ) -> Told {
-    let at = plain::call(out, night.at, night, book, wanted, bytes, played);
-    let state = night.state;
+    let at = plain::call(out, desk.at, state, desk, book, wanted, bytes, played);
     let next = played.state;
     let request = wanted.request;
     let answer = played.answer;
-    note_call(book, state, next, request, night.line);
-    note_answer(book, state, request, answer, night.line);
-    let lists = night.lists;
+    note_call(book, state, next, request, desk.line);
+    note_answer(book, state, request, answer, desk.line);
+    let lists = desk.lists;
     let start = Told {
         at: at,
         lists: lists,
     };
     let poll = Poll {
         state: state,
-        line: night.line,
+        line: desk.line,
         by_bus_off: is_bus_off_poll(request),
     };
     tell::all(start, out, book, ram, poll, sheet, played.notifications)
 }
 
 // The call as one line of words.
-fn in_numbers(
-    night: Night,
-    request: Request,
-    played: Played,
-    sheet: &[u32],
-    out: &mut [u8],
-) -> Told {
+fn in_numbers(desk: Desk, request: Request, played: Played, sheet: &[u32], out: &mut [u8]) -> Told {
     let function = request.function;
     let verdict = played.verdict;
     let answer = played.answer;
-    let lists = night.lists;
+    let lists = desk.lists;
     let at = terse::call(
         out,
-        night.at,
-        night.line,
+        desk.at,
+        desk.line,
         function,
         verdict,
         answer,
@@ -155,15 +147,15 @@ fn in_numbers(
 
 // A call of the driver, with as much of the memory and the sheet as is lent, and the bytes that it is given.
 fn performed(
-    night: Night,
+    state: State,
+    desk: Desk,
     request: Request,
     bytes: &[u8],
     memory: &mut [u8],
     sheet: &mut [u32],
 ) -> Played {
-    let state = night.state;
-    let lent_bytes = of_bytes(night.memory, memory);
-    let lent_words = of_words(night.sheet, sheet);
+    let lent_bytes = of_bytes(desk.memory, memory);
+    let lent_words = of_words(desk.sheet, sheet);
     perform(
         state,
         &mut memory[..lent_bytes],
@@ -175,7 +167,8 @@ fn performed(
 
 // What came of a call, in the night's style.
 fn told(
-    night: Night,
+    state: State,
+    desk: Desk,
     wanted: Wanted,
     bytes: &[u8],
     played: Played,
@@ -184,21 +177,26 @@ fn told(
     out: &mut [u8],
     book: &mut [u64],
 ) -> Told {
-    if night.plain {
-        let lent = of_bytes(night.memory, memory);
-        return in_words(
-            night,
-            wanted,
-            bytes,
-            played,
-            &memory[..lent],
-            sheet,
-            out,
-            book,
-        );
+    if desk.plain {
+        let lent = of_bytes(desk.memory, memory);
+        let ram = &memory[..lent];
+        return in_words(state, desk, wanted, bytes, played, ram, sheet, out, book);
     }
     let request = wanted.request;
-    in_numbers(night, request, played, sheet, out)
+    in_numbers(desk, request, played, sheet, out)
+}
+
+// The night after a call.
+fn after(desk: Desk, played: Played, told: Told) -> Night {
+    let state = played.state;
+    let lists = told.lists;
+    let mut next = desk;
+    next.at = told.at;
+    next.lists = lists;
+    Night {
+        state: state,
+        desk: next,
+    }
 }
 
 // Plays a call with the bytes that it is given, and tells what came of it.
@@ -211,16 +209,12 @@ fn call(
     out: &mut [u8],
     book: &mut [u64],
 ) -> Night {
+    let state = night.state;
+    let desk = night.desk;
     let request = wanted.request;
-    let played = performed(night, request, bytes, memory, sheet);
-    let told = told(night, wanted, bytes, played, memory, sheet, out, book);
-    let state = played.state;
-    let lists = told.lists;
-    let mut next = night;
-    next.state = state;
-    next.at = told.at;
-    next.lists = lists;
-    next
+    let played = performed(state, desk, request, bytes, memory, sheet);
+    let told = told(state, desk, wanted, bytes, played, memory, sheet, out, book);
+    after(desk, played, told)
 }
 
 // A call with the bytes that its line brings.
@@ -238,11 +232,18 @@ fn call_of_line(
 }
 
 // The bytes of the configuration in words, in plain words only.
-fn configuration(night: Night, draft: &[u8], out: &mut [u8]) -> usize {
-    if night.plain {
-        return draft::shown(out, night.at, draft);
+fn configuration(night: Night, draft: &[u8], out: &mut [u8]) -> Night {
+    let desk = night.desk;
+    if !desk.plain {
+        return night;
     }
-    night.at
+    let state = night.state;
+    let mut next = desk;
+    next.at = draft::shown(out, desk.at, draft);
+    Night {
+        state: state,
+        desk: next,
+    }
 }
 
 // Init with the configuration in words, which is shown under it.
@@ -256,77 +257,71 @@ fn init_in_words(
 ) -> Night {
     let count = of_bytes(size(draft), draft);
     let wanted = init((count % 0x100000000) as u32);
-    let mut next = call(night, wanted, &draft[..count], memory, sheet, out, book);
-    let at = configuration(next, draft, out);
-    next.at = at;
-    next
+    let next = call(night, wanted, &draft[..count], memory, sheet, out, book);
+    configuration(next, draft, out)
 }
 
-fn data(night: Night, object: u32, memory: &[u8], out: &mut [u8]) -> usize {
-    let lent = of_bytes(night.memory, memory);
+fn data(desk: Desk, object: u32, memory: &[u8], out: &mut [u8]) -> usize {
+    let lent = of_bytes(desk.memory, memory);
     let data = can::data_of(&memory[..lent], object);
-    if night.plain {
-        return plain::data(out, night.at, night.line, object, data);
+    if desk.plain {
+        return plain::data(out, desk.at, desk.line, object, data);
     }
-    terse::bytes(out, night.at, night.line, b" data - - ", data)
+    terse::bytes(out, desk.at, desk.line, b" data - - ", data)
 }
 
-fn show(night: Night, object: u32, memory: &[u8], out: &mut [u8]) -> usize {
+fn show(desk: Desk, object: u32, memory: &[u8], out: &mut [u8]) -> usize {
     let bytes = bytes(memory, object);
-    if night.plain {
-        return plain::show(out, night.at, night.line, object, bytes);
+    if desk.plain {
+        return plain::show(out, desk.at, desk.line, object, bytes);
     }
-    terse::bytes(out, night.at, night.line, b" show ", bytes)
+    terse::bytes(out, desk.at, desk.line, b" show ", bytes)
 }
 
-fn state(night: Night, out: &mut [u8]) -> usize {
-    let state = night.state;
-    if night.plain {
-        return plain::state(out, night.at, night.line, state);
+fn state_told(state: State, desk: Desk, out: &mut [u8]) -> usize {
+    if desk.plain {
+        return plain::state(out, desk.at, desk.line, state);
     }
-    terse::state(out, night.at, night.line, state)
+    terse::state(out, desk.at, desk.line, state)
 }
 
 // What changes the bench alone is told in plain words only.
-fn noted(night: Night, text: &[u8], n: u64, out: &mut [u8]) -> usize {
-    if night.plain {
-        return say(out, night.at, text, two(night.line, n));
+fn noted(desk: Desk, text: &[u8], n: u64, out: &mut [u8]) -> usize {
+    if desk.plain {
+        return say(out, desk.at, text, two(desk.line, n));
     }
-    night.at
+    desk.at
 }
 
-fn unreadable(night: Night, trouble: Trouble, line: &[u8], out: &mut [u8]) -> usize {
-    if night.plain {
+// A line that is not understood.
+fn unreadable(desk: Desk, trouble: Trouble, line: &[u8], out: &mut [u8]) -> usize {
+    if desk.plain {
         let name = name_of(word(line, 0));
-        return plain::unreadable(out, night.at, night.line, trouble, name, line);
+        return plain::unreadable(out, desk.at, desk.line, trouble, name, line);
     }
-    let numbered_line = numbered(out, night.at, b"", night.line);
-    let mut end = put(out, numbered_line, b" ? ");
-    end = message(out, end, trouble);
-    put(out, end, b"\n")
+    terse::unreadable(out, desk.at, desk.line, trouble)
 }
 
-// One more line that is not understood.
-fn misunderstood(night: Night, trouble: Trouble, line: &[u8], out: &mut [u8]) -> Night {
-    let mut next = night;
-    next.at = unreadable(night, trouble, line, out);
-    next.unreadable = more(night.unreadable);
-    next.first_unreadable = if night.unreadable == 0 {
-        night.line
-    } else {
-        night.first_unreadable
-    };
+// Counts it.
+fn misunderstood(desk: Desk) -> Desk {
+    let mut next = desk;
+    next.unreadable = more(desk.unreadable);
+    if desk.unreadable == 0 {
+        next.first_unreadable = desk.line;
+    }
     next
 }
 
 // An object of the configuration in words, where there was room for it.
-fn object_added(night: Night, added: bool, number: u8, line: &[u8], out: &mut [u8]) -> Night {
+fn object_added(desk: Desk, added: bool, number: u8, line: &[u8], out: &mut [u8]) -> Desk {
     if !added {
-        return misunderstood(night, Trouble::TooManyObjects, line, out);
+        let mut next = misunderstood(desk);
+        next.at = unreadable(desk, Trouble::TooManyObjects, line, out);
+        return next;
     }
-    let mut next = night;
+    let mut next = desk;
     next.at = noted(
-        night,
+        desk,
         b"%6  object %0 of the next init\n",
         number as u64,
         out,
@@ -334,29 +329,31 @@ fn object_added(night: Night, added: bool, number: u8, line: &[u8], out: &mut [u
     next
 }
 
+fn controllers(desk: Desk, count: u32, draft: &mut [u8; ROOM], out: &mut [u8]) -> Desk {
+    begin(draft, count);
+    let mut next = desk;
+    next.at = noted(desk, b"%6  %c in the next init\n", count as u64, out);
+    next
+}
+
 // A line of the configuration in words.
 fn configured(
-    night: Night,
+    desk: Desk,
     command: Command,
     line: &[u8],
     draft: &mut [u8; ROOM],
     out: &mut [u8],
-) -> Night {
+) -> Desk {
     let number = objects(draft);
     match command {
-        Command::Controllers { count } => {
-            begin(draft, count);
-            let mut next = night;
-            next.at = noted(night, b"%6  %c in the next init\n", count as u64, out);
-            next
-        }
+        Command::Controllers { count } => controllers(desk, count, draft, out),
         Command::Send {
             controller,
             payload,
             padding,
         } => {
             let added = add_sending(draft, controller, payload, padding);
-            object_added(night, added, number, line, out)
+            object_added(desk, added, number, line, out)
         }
         Command::Receive {
             controller,
@@ -365,35 +362,46 @@ fn configured(
             mask,
         } => {
             let added = add_receiving(draft, controller, payload, code, mask);
-            object_added(night, added, number, line, out)
+            object_added(desk, added, number, line, out)
         }
-        _ => night,
+        _ => desk,
     }
 }
 
-// A command that is neither a call nor of the configuration in words.
-fn asked(night: Night, command: Command, line: &[u8], memory: &[u8], out: &mut [u8]) -> Night {
-    let mut next = night;
+// What a command that looks at the memory, or changes the bench alone, is told as.
+fn asked(desk: Desk, command: Command, line: &[u8], memory: &[u8], out: &mut [u8]) -> usize {
     match command {
-        Command::Data { object } => {
-            next.at = data(night, object, memory, out);
-        }
-        Command::Show { object } => {
-            next.at = show(night, object, memory, out);
-        }
-        Command::State => {
-            next.at = state(night, out);
-        }
+        Command::Data { object } => data(desk, object, memory, out),
+        Command::Show { object } => show(desk, object, memory, out),
+        Command::Sheet { words } => noted(
+            desk,
+            b"%6  sheet of %w from here on\n",
+            words as u64,
+            out,
+        ),
+        Command::Memory { bytes } => noted(
+            desk,
+            b"%6  memory of %b from here on\n",
+            bytes as u64,
+            out,
+        ),
+        Command::Unreadable(trouble) => unreadable(desk, trouble, line, out),
+        _ => desk.at,
+    }
+}
+
+// What such a command changes.
+fn changed(desk: Desk, command: Command) -> Desk {
+    let mut next = desk;
+    match command {
         Command::Sheet { words } => {
             next.sheet = words as usize;
-            next.at = noted(night, b"%6  sheet of %w from here on\n", words as u64, out);
         }
         Command::Memory { bytes } => {
             next.memory = bytes as usize;
-            next.at = noted(night, b"%6  memory of %b from here on\n", bytes as u64, out);
         }
-        Command::Unreadable(trouble) => {
-            next = misunderstood(night, trouble, line, out);
+        Command::Unreadable(_) => {
+            next = misunderstood(desk);
         }
         _ => {}
     }
@@ -419,19 +427,61 @@ fn is_configured(command: Command) -> bool {
     }
 }
 
-// A command that is no call.
-fn other(
-    night: Night,
+// A command that needs no state.
+fn stateless(
+    desk: Desk,
     command: Command,
     line: &[u8],
     memory: &[u8],
     draft: &mut [u8; ROOM],
     out: &mut [u8],
-) -> Night {
+) -> Desk {
     if is_configured(command) {
-        return configured(night, command, line, draft, out);
+        return configured(desk, command, line, draft, out);
     }
-    asked(night, command, line, memory, out)
+    let mut next = changed(desk, command);
+    next.at = asked(desk, command, line, memory, out);
+    next
+}
+
+fn is_state(command: Command) -> bool {
+    match command {
+        Command::State => true,
+        _ => false,
+    }
+}
+
+// A command that is no call. Its line is read again, so that what plays a call carries no command.
+fn other(
+    night: Night,
+    line: &[u8],
+    memory: &[u8],
+    bytes: &mut [u8; MOST_BYTES],
+    draft: &mut [u8; ROOM],
+    out: &mut [u8],
+) -> Night {
+    let command = bench_script::command::read(line, bytes);
+    let state = night.state;
+    let desk = night.desk;
+    if is_state(command) {
+        let mut told = desk;
+        told.at = state_told(state, desk, out);
+        return Night {
+            state: state,
+            desk: told,
+        };
+    }
+    let next = stateless(desk, command, line, memory, draft, out);
+    Night {
+        state: state,
+        desk: next,
+    }
+}
+
+// What a line asks for. The bytes that it brings are put into the buffer.
+fn asks(line: &[u8], bytes: &mut [u8; MOST_BYTES]) -> Asks {
+    let command = bench_script::command::read(line, bytes);
+    request_of(command)
 }
 
 // Plays one line, which has no line end any more.
@@ -445,11 +495,10 @@ pub fn play(
     out: &mut [u8],
     book: &mut [u64],
 ) -> Night {
-    let command = bench_script::command::read(line, bytes);
-    let asks = request_of(command);
+    let asks = asks(line, bytes);
     match asks {
         Asks::Call(wanted) => call_of_line(night, wanted, bytes, memory, sheet, out, book),
         Asks::InitInWords => init_in_words(night, draft, memory, sheet, out, book),
-        Asks::Other => other(night, command, line, memory, draft, out),
+        Asks::Other => other(night, line, memory, bytes, draft, out),
     }
 }

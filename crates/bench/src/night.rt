@@ -14,10 +14,9 @@ pub const CANCELLED_AT: usize = OUTPUT + LIST;
 
 pub const OUT_ROOM: usize = OUTPUT + LIST + LIST;
 
-// The driver state; the style; the line's number; the lengths lent, in words and bytes; how far the output and the lists are filled, and how
-// many frames the lists had no room for; how many lines could not be read, and the first of them; whether the output could not be written.
-pub struct Night {
-    pub state: State,
+// The bench's own part of a night: the style; the line's number; the lengths lent, in words and bytes; how far the output and the lists are
+// filled; how many lines could not be read, and the first of them; whether the output could not be written.
+pub struct Desk {
     pub plain: bool,
     pub line: u64,
     pub sheet: usize,
@@ -27,6 +26,12 @@ pub struct Night {
     pub unreadable: u64,
     pub first_unreadable: u64,
     pub stuck: bool,
+}
+
+// The driver state, and the bench's part.
+pub struct Night {
+    pub state: State,
+    pub desk: Desk,
 }
 
 // How far the two lists are filled, and how many frames each had no room for.
@@ -46,11 +51,9 @@ fn empty_lists() -> Lists {
     }
 }
 
-pub fn begun(plain: bool) -> Night {
-    let state = can::initial_state();
+fn empty_desk(plain: bool) -> Desk {
     let lists = empty_lists();
-    Night {
-        state: state,
+    Desk {
         plain: plain,
         line: 0,
         sheet: SHEET_SIZE,
@@ -60,6 +63,15 @@ pub fn begun(plain: bool) -> Night {
         unreadable: 0,
         first_unreadable: 0,
         stuck: false,
+    }
+}
+
+pub fn begun(plain: bool) -> Night {
+    let state = can::initial_state();
+    let desk = empty_desk(plain);
+    Night {
+        state: state,
+        desk: desk,
     }
 }
 

@@ -1,7 +1,7 @@
 // The plain style: each line in words.
 use crate::answer;
 use crate::asked;
-use crate::night::Night;
+use crate::night::Desk;
 use crate::object;
 use crate::print::hex_or_none;
 use crate::print::to_column;
@@ -28,11 +28,12 @@ fn begun(out: &mut [u8], at: usize, line: u64, text: &[u8], n: u64) -> usize {
     say(out, at, text, two(line, n))
 }
 
-// What came of a call; the night is as it was before it.
+// What came of a call; the state is that before it.
 fn replied(
     out: &mut [u8],
     at: usize,
-    night: Night,
+    state: State,
+    desk: Desk,
     book: &[u64],
     wanted: Wanted,
     bytes: &[u8],
@@ -45,7 +46,16 @@ fn replied(
     let answer = played.answer;
     match verdict {
         Verdict::Accepted => answer::call(out, at, function, answer, next, played.notifications),
-        Verdict::Rejected(reason) => refused::call(out, at, night, book, wanted, bytes, reason),
+        Verdict::Rejected(reason) => refused::call(
+            out,
+            at,
+            state,
+            desk,
+            book,
+            wanted,
+            bytes,
+            reason,
+        ),
     }
 }
 
@@ -53,16 +63,17 @@ fn replied(
 pub fn call(
     out: &mut [u8],
     at: usize,
-    night: Night,
+    state: State,
+    desk: Desk,
     book: &[u64],
     wanted: Wanted,
     bytes: &[u8],
     played: Played,
 ) -> usize {
-    let mut end = begun(out, at, night.line, b"%6  ", 0);
+    let mut end = begun(out, at, desk.line, b"%6  ", 0);
     end = asked::call(out, end, wanted);
     end = to_column(out, end, at, ANSWER);
-    end = replied(out, end, night, book, wanted, bytes, played);
+    end = replied(out, end, state, desk, book, wanted, bytes, played);
     put(out, end, b"\n")
 }
 

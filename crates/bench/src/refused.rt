@@ -1,7 +1,7 @@
 // Why a call is refused, in words.
 use crate::book::origin;
 use crate::fault;
-use crate::night::Night;
+use crate::night::Desk;
 use crate::say::NUMBERS;
 use crate::say::one;
 use crate::say::say;
@@ -97,10 +97,10 @@ fn numbers(
     reason: Rejection,
     request: Request,
     length: u32,
-    night: Night,
+    state: State,
+    desk: Desk,
     line: u64,
 ) -> [u64; NUMBERS] {
-    let state = night.state;
     let object = request.object as u64;
     match reason {
         Rejection::ParamHandle | Rejection::NothingToSend => one(object),
@@ -111,8 +111,8 @@ fn numbers(
             request.number as u64,
         ),
         Rejection::ParamDataLength | Rejection::BadLength => one(length as u64),
-        Rejection::SheetTooShort => two(night.sheet as u64, SHEET_SIZE as u64),
-        Rejection::WrongRamSize => two(night.memory as u64, RAM_SIZE as u64),
+        Rejection::SheetTooShort => two(desk.sheet as u64, SHEET_SIZE as u64),
+        Rejection::WrongRamSize => two(desk.memory as u64, RAM_SIZE as u64),
         Rejection::BadIdentifier => one(request.identifier as u64),
         _ => one(controller_named(state, request)),
     }
@@ -157,18 +157,18 @@ fn is_configuration(reason: Rejection) -> bool {
     }
 }
 
-// `rejected 35: controller 0 is not STARTED`; the night is as it was before the call, and bytes are those that the call was given.
+// `rejected 35: controller 0 is not STARTED`; the state is that before the call, and bytes are those that the call was given.
 pub fn call(
     out: &mut [u8],
     at: usize,
-    night: Night,
+    state: State,
+    desk: Desk,
     book: &[u64],
     wanted: Wanted,
     bytes: &[u8],
     reason: Rejection,
 ) -> usize {
     let request = wanted.request;
-    let state = night.state;
     let word = piece(b"rejected %0: |busy %0: ", word_place(reason));
     let end = say(out, at, word, one(can::reason(reason) as u64));
     if is_configuration(reason) {
@@ -176,6 +176,6 @@ pub fn call(
     }
     let line = origin(book, request.object);
     let place = place(reason, request, wanted.length, state.initialised);
-    let numbers = numbers(reason, request, wanted.length, night, line);
+    let numbers = numbers(reason, request, wanted.length, state, desk, line);
     meaning(out, end, place, numbers)
 }

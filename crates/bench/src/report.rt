@@ -1,5 +1,5 @@
 // What goes wrong with a whole night, in one line on standard error. `play` reads these lines, too.
-use crate::night::Night;
+use crate::night::Desk;
 use crate::say::one;
 use crate::say::say;
 use crate::say::three;
@@ -30,8 +30,8 @@ pub fn stopped(trouble: &[u8], lines: u64) {
 }
 
 // Some lines were not understood.
-pub fn misunderstood(night: Night, lines: u64) {
-    if night.unreadable == 0 {
+pub fn misunderstood(desk: Desk, lines: u64) {
+    if desk.unreadable == 0 {
         return;
     }
     let mut text = [0u8; ROOM];
@@ -39,7 +39,7 @@ pub fn misunderstood(night: Night, lines: u64) {
         &mut text,
         0,
         b"bench: %0 of %0 lines not understood, first at line %0\n",
-        three(night.unreadable, lines, night.first_unreadable),
+        three(desk.unreadable, lines, desk.first_unreadable),
     );
     said(&text, end);
 }

@@ -2,7 +2,6 @@
 use crate::book;
 use crate::book::counted;
 use crate::book::total;
-use crate::night::Night;
 use crate::say::one;
 use crate::say::say;
 use bench_text::put::put;
@@ -79,15 +78,10 @@ fn heading(out: &mut [u8], at: usize, book: &[u64]) -> usize {
 }
 
 // The totals of a night.
-pub fn totals(out: &mut [u8], at: usize, book: &[u64], night: Night) -> usize {
+pub fn totals(out: &mut [u8], at: usize, book: &[u64], unreadable: u64) -> usize {
     let mut end = heading(out, at, book);
     end = rows(out, end, book);
-    say(
-        out,
-        end,
-        b"  lines not understood %8\n",
-        one(night.unreadable),
-    )
+    say(out, end, b"  lines not understood %8\n", one(unreadable))
 }
 
 // The heading of the list of frames that a bus-off took.

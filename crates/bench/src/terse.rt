@@ -3,8 +3,10 @@ use crate::notifications::Notification;
 use crate::notifications::notification_at;
 use crate::print::hex_or_none;
 use crate::print::numbered;
+use crate::trouble::message;
 use bench_text::put::put;
 use bench_text::put::put_decimal;
+use bench_words::reading::Trouble;
 use bench_words::split::between;
 use can::State;
 use can::Verdict;
@@ -58,15 +60,54 @@ fn name(out: &mut [u8], at: usize, function: Function) -> usize {
     put(out, at, between(&NAMES, start(function), end(function)))
 }
 
-fn answer(out: &mut [u8], at: usize, answer: Answer) -> usize {
+// The words of answers, one after the other; where each begins and ends.
+const ANSWERS: [u8; 26] = *b" - stored: unwanted lost  ";
+
+fn answer_start(answer: Answer) -> usize {
     match answer {
-        Answer::Nothing => put(out, at, b" -"),
-        Answer::Mode(m) => numbered(out, at, b" ", m as u64),
-        Answer::TakenBy(h) => numbered(out, at, b" ", h as u64),
-        Answer::Stored(h) => numbered(out, at, b" stored:", h as u64),
-        Answer::Unwanted => put(out, at, b" unwanted"),
-        Answer::Lost => put(out, at, b" lost"),
+        Answer::Nothing => 0,
+        Answer::Mode(_) => 24,
+        Answer::TakenBy(_) => 24,
+        Answer::Stored(_) => 2,
+        Answer::Unwanted => 10,
+        Answer::Lost => 19,
     }
+}
+
+fn answer_end(answer: Answer) -> usize {
+    match answer {
+        Answer::Nothing => 2,
+        Answer::Mode(_) => 25,
+        Answer::TakenBy(_) => 25,
+        Answer::Stored(_) => 10,
+        Answer::Unwanted => 19,
+        Answer::Lost => 24,
+    }
+}
+
+// The number of an answer; one above all of them where it has none.
+fn answer_number(answer: Answer) -> u64 {
+    match answer {
+        Answer::Mode(m) => m as u64,
+        Answer::TakenBy(h) => h as u64,
+        Answer::Stored(h) => h as u64,
+        _ => NO_NUMBER,
+    }
+}
+
+const NO_NUMBER: u64 = 0x100000000;
+
+fn answer(out: &mut [u8], at: usize, answer: Answer) -> usize {
+    let end = put(
+        out,
+        at,
+        between(&ANSWERS, answer_start(answer), answer_end(answer)),
+    );
+    let n = answer_number(answer);
+    if n == NO_NUMBER {
+        return end;
+    }
+    put_decimal(out, end, n)
 }
 
 // One notification: its four words.
@@ -168,5 +209,13 @@ pub fn state(out: &mut [u8], at: usize, line: u64, state: State) -> usize {
     end = numbered(out, end, b" ", state.object_count as u64);
     end = controllers(out, end, state);
     end = mailboxes(out, end, state);
+    put(out, end, b"\n")
+}
+
+// A line that is not understood: `LINE ? TROUBLE`.
+pub fn unreadable(out: &mut [u8], at: usize, line: u64, trouble: Trouble) -> usize {
+    let mut end = put_decimal(out, at, line);
+    end = put(out, end, b" ? ");
+    end = message(out, end, trouble);
     put(out, end, b"\n")
 }

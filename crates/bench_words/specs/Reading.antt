@@ -86,7 +86,7 @@ is-unreadable (Value n) = false
 is-unreadable (Unreadable t) = true
 
 -- bytes may stand in several words: how many the words from a position on say, behind those said so far, and the bytes themselves; a word
--- that can't be read ends them. The number counts down the words, of which a text has fewer than bytes.
+-- that can't be read ends them. The number counts down the words, of which a text has no more than bytes.
 unfoldable pub bytes-from : ℕ → List ℕ → ℕ → List ℕ → Reading × List ℕ
 bytes-from zero text at bytes = (Value (length bytes), bytes)
 bytes-from (suc words) text at bytes =
