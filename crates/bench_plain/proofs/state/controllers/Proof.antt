@@ -1,0 +1,64 @@
+-- `bench_plain::state::controllers` meets its contract: it is safe and ends.
+use borrow.Author.Needs.{needs}
+use Prim.Native.Nat.{_≤_, _-_}
+use mathlib.Core.Path.{_≡_}
+use lib.ListN.{length}
+use Rattle.bench_plain.proofs.state.controllers.Statement.{statement}
+use Rattle.bench_plain.proofs.state.controllers.Tie as tie
+
+abbrev Inv-loop : tie.InvT-loop
+Inv-loop out₀ at state count end₀ c₀ out end c = (c ≤ count) × (length out ≡ length out₀)
+
+abbrev μ-loop : tie.MeasureT-loop
+μ-loop out₀ at state count end₀ c₀ out end c = count - c
+
+limited-requires : tie.Need-limited-requires Inv-loop μ-loop
+limited-requires c κs = search needs
+
+loop-holds : tie.Need-loop-holds Inv-loop μ-loop
+loop-holds c = search needs
+
+element-copy-out-t13 : tie.Need-element-copy-out-t13 Inv-loop μ-loop
+element-copy-out-t13 c = search needs
+
+element-copy-out-t16 : tie.Need-element-copy-out-t16 Inv-loop μ-loop
+element-copy-out-t16 c = search needs
+
+element-copy-out-t10 : tie.Need-element-copy-out-t10 Inv-loop μ-loop
+element-copy-out-t10 c = search needs
+
+controller-requires : tie.Need-controller-requires Inv-loop μ-loop
+controller-requires c κs = search needs
+
+add-c : tie.Need-add-c Inv-loop μ-loop
+add-c c = search needs
+
+loop-less : tie.Need-loop-less Inv-loop μ-loop
+loop-less c = search needs
+
+loop-again : tie.Need-loop-again Inv-loop μ-loop
+loop-again c = search needs
+
+same-length : tie.Need-same-length Inv-loop μ-loop
+same-length c = search needs
+
+returns : tie.Need-returns Inv-loop μ-loop
+returns c = search needs
+
+pub controllers-spec : {M : Type 1} → statement M
+controllers-spec =
+    tie.close
+    (tie.spec
+    Inv-loop
+    μ-loop
+    limited-requires
+    loop-holds
+    element-copy-out-t13
+    element-copy-out-t16
+    element-copy-out-t10
+    controller-requires
+    add-c
+    loop-less
+    loop-again
+    same-length
+    returns)

@@ -1,0 +1,51 @@
+-- `bench_plain::suspect::all_printable` meets its contract: it is safe and ends.
+use borrow.Author.Needs.{needs}
+use Prim.Native.Nat.{_≤_, _-_}
+use lib.ListN.{length}
+use Rattle.bench_plain.proofs.suspect.all_printable.Statement.{statement}
+use Rattle.bench_plain.proofs.suspect.all_printable.Tie as tie
+
+abbrev Inv-loop : tie.InvT-loop
+Inv-loop text i₀ i = i ≤ length text
+
+abbrev μ-loop : tie.MeasureT-loop
+μ-loop text i₀ i = length text - i
+
+loop-holds : tie.Need-loop-holds Inv-loop μ-loop
+loop-holds c = search needs
+
+shared-slice-read-printable : tie.Need-shared-slice-read-printable Inv-loop μ-loop
+shared-slice-read-printable c = search needs
+
+printable-requires : tie.Need-printable-requires Inv-loop μ-loop
+printable-requires c κs = search needs
+
+returns : tie.Need-returns Inv-loop μ-loop
+returns c = search needs
+
+add-i : tie.Need-add-i Inv-loop μ-loop
+add-i c = search needs
+
+loop-less : tie.Need-loop-less Inv-loop μ-loop
+loop-less c = search needs
+
+loop-again : tie.Need-loop-again Inv-loop μ-loop
+loop-again c = search needs
+
+returns-2 : tie.Need-returns-2 Inv-loop μ-loop
+returns-2 c = search needs
+
+pub all-printable-spec : {M : Type 1} → statement M
+all-printable-spec =
+    tie.close
+    (tie.spec
+    Inv-loop
+    μ-loop
+    loop-holds
+    shared-slice-read-printable
+    printable-requires
+    returns
+    add-i
+    loop-less
+    loop-again
+    returns-2)
