@@ -104,9 +104,19 @@ fn in_words(
     out: &mut [u8],
     book: &mut [u64],
 ) -> Told {
-    let at = plain::call(out, desk.at, state, desk, book, wanted, bytes, played);
-    let next = played.state;
     let request = wanted.request;
+    let at = plain::call(
+        out,
+        desk.at,
+        state,
+        desk,
+        book,
+        request,
+        wanted.length,
+        bytes,
+        played,
+    );
+    let next = played.state;
     let answer = played.answer;
     note_call(book, state, next, request, desk.line);
     note_answer(book, state, request, answer, desk.line);

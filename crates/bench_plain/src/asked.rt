@@ -1,9 +1,9 @@
 // Calls in words.
 use crate::say::NUMBERS;
 use crate::say::say;
-use bench_requests::request::Wanted;
 use bench_words::piece::piece;
 use can_calls::request::Function;
+use can_calls::request::Request;
 
 // The place of a function in the table below.
 fn place(function: Function) -> usize {
@@ -24,10 +24,9 @@ fn place(function: Function) -> usize {
 }
 
 // The numbers of a call, in the order of its text.
-fn numbers(wanted: Wanted) -> [u64; NUMBERS] {
-    let request = wanted.request;
+fn numbers(request: Request, bytes: u32) -> [u64; NUMBERS] {
     let function = request.function;
-    let length = wanted.length as u64;
+    let length = bytes as u64;
     let controller = request.controller as u64;
     let object = request.object as u64;
     let number = request.number as u64;
@@ -41,8 +40,8 @@ fn numbers(wanted: Wanted) -> [u64; NUMBERS] {
     }
 }
 
-// A call.
-pub fn call(out: &mut [u8], at: usize, wanted: Wanted) -> usize {
+// A call, and how many bytes it brings.
+pub fn call(out: &mut [u8], at: usize, request: Request, bytes: u32) -> usize {
     let texts = b"init with %b|\
         deinit|\
         set controller %0 to %m|\
@@ -55,7 +54,11 @@ pub fn call(out: &mut [u8], at: usize, wanted: Wanted) -> usize {
         sent from object %0|\
         busoff of controller %0|\
         arrived on controller %0, id %i, %b";
-    let request = wanted.request;
     let function = request.function;
-    say(out, at, piece(texts, place(function)), numbers(wanted))
+    say(
+        out,
+        at,
+        piece(texts, place(function)),
+        numbers(request, bytes),
+    )
 }

@@ -12,13 +12,13 @@ use crate::state;
 use crate::suspect;
 use crate::trouble::expected;
 use crate::trouble::message;
-use bench_requests::request::Wanted;
 use bench_script::name::Name;
 use bench_text::put::put;
 use bench_words::reading::Trouble;
 use can::State;
 use can::Verdict;
 use can_calls::perform::Played;
+use can_calls::request::Request;
 
 // The column at which answers begin.
 const ANSWER: usize = 66;
@@ -35,13 +35,13 @@ fn replied(
     state: State,
     desk: Desk,
     book: &[u64],
-    wanted: Wanted,
+    request: Request,
+    length: u32,
     bytes: &[u8],
     played: Played,
 ) -> usize {
     let verdict = played.verdict;
     let next = played.state;
-    let request = wanted.request;
     let function = request.function;
     let answer = played.answer;
     match verdict {
@@ -52,7 +52,8 @@ fn replied(
             state,
             desk,
             book,
-            wanted,
+            request,
+            length,
             bytes,
             reason,
         ),
@@ -66,14 +67,15 @@ pub fn call(
     state: State,
     desk: Desk,
     book: &[u64],
-    wanted: Wanted,
+    request: Request,
+    length: u32,
     bytes: &[u8],
     played: Played,
 ) -> usize {
     let mut end = begun(out, at, desk.line, b"%6  ", 0);
-    end = asked::call(out, end, wanted);
+    end = asked::call(out, end, request, length);
     end = to_column(out, end, at, ANSWER);
-    end = replied(out, end, state, desk, book, wanted, bytes, played);
+    end = replied(out, end, state, desk, book, request, length, bytes, played);
     put(out, end, b"\n")
 }
 

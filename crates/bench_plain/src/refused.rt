@@ -7,7 +7,6 @@ use crate::say::one;
 use crate::say::say;
 use crate::say::three;
 use crate::say::two;
-use bench_requests::request::Wanted;
 use bench_words::piece::piece;
 use can::CONTROLLERS;
 use can::OBJECTS;
@@ -164,18 +163,18 @@ pub fn call(
     state: State,
     desk: Desk,
     book: &[u64],
-    wanted: Wanted,
+    request: Request,
+    length: u32,
     bytes: &[u8],
     reason: Rejection,
 ) -> usize {
-    let request = wanted.request;
     let word = piece(b"rejected %0: |busy %0: ", word_place(reason));
     let end = say(out, at, word, one(can::reason(reason) as u64));
     if is_configuration(reason) {
         return fault::told(out, end, bytes);
     }
     let line = origin(book, request.object);
-    let place = place(reason, request, wanted.length, state.initialised);
-    let numbers = numbers(reason, request, wanted.length, state, desk, line);
+    let place = place(reason, request, length, state.initialised);
+    let numbers = numbers(reason, request, length, state, desk, line);
     meaning(out, end, place, numbers)
 }
