@@ -36,6 +36,7 @@ use bench_words::bytes::MOST_BYTES;
 use bench_words::reading::Trouble;
 use bench_words::split::word;
 use can::State;
+use can::Verdict;
 use can_calls::answer::Answer;
 use can_calls::perform::Played;
 use can_calls::perform::perform;
@@ -81,11 +82,33 @@ fn note_dropped(book: &mut [u64], before: State, initialised: bool) {
     count_dropped(book, before);
 }
 
+fn is_accepted(verdict: Verdict) -> bool {
+    match verdict {
+        Verdict::Accepted => true,
+        Verdict::Rejected(_) => false,
+    }
+}
+
+// A sent event that is accepted.
+fn note_sent(book: &mut [u64], object: u32, line: u64, accepted: bool) {
+    if !accepted {
+        return;
+    }
+    set_sent(book, object, line);
+}
+
 // A sent event, an Init and a DeInit.
-fn note_call(book: &mut [u64], before: State, next: State, request: Request, line: u64) {
+fn note_call(
+    book: &mut [u64],
+    before: State,
+    next: State,
+    request: Request,
+    line: u64,
+    accepted: bool,
+) {
     let function = request.function;
     match function {
-        Function::Sent => set_sent(book, request.object, line),
+        Function::Sent => note_sent(book, request.object, line, accepted),
         Function::Init => set_controllers(book, next.controller_count as u64),
         Function::DeInit => note_dropped(book, before, next.initialised),
         _ => {}
@@ -118,7 +141,8 @@ fn in_words(
     );
     let next = played.state;
     let answer = played.answer;
-    note_call(book, state, next, request, desk.line);
+    let verdict = played.verdict;
+    note_call(book, state, next, request, desk.line, is_accepted(verdict));
     note_answer(book, state, request, answer, desk.line);
     let lists = desk.lists;
     let start = Told {
