@@ -6,6 +6,7 @@ use mathlib.Core.List.{List, [], _∷_}
 use lib.ListN.{length}
 use lib.Dec.{ltb, leb}
 use Rattle.rules.specs.Bytes.{same-bytes, splice}
+use Rattle.bench_words.specs.Text.{ascii}
 use Rattle.bench_words.specs.Split.{word, is-missing, first, after}
 use Rattle.bench_words.specs.Reading.{number-of, limited-to, mode-of, identifier-of, bytes-of, longest-line, largest-handle, largest-sheet, largest-memory, largest-byte}
 use Rattle.bench_script.specs.Name.{name-of, argument-count, is-open}
@@ -85,10 +86,10 @@ arrived-of text = reading-on (number-of (first text)) (λ c. arrived-on-of c (af
 -- poll write | read | mode | busoff
 unfoldable pub poll-of : List ℕ → Command
 poll-of w =
-    cond (same-bytes w (119 ∷ 114 ∷ 105 ∷ 116 ∷ 101 ∷ [])) PollWrite
-    (cond (same-bytes w (114 ∷ 101 ∷ 97 ∷ 100 ∷ [])) PollRead
-    (cond (same-bytes w (109 ∷ 111 ∷ 100 ∷ 101 ∷ [])) PollMode
-    (cond (same-bytes w (98 ∷ 117 ∷ 115 ∷ 111 ∷ 102 ∷ 102 ∷ [])) PollBusOff (Unreadable UnknownPoll))))
+    cond (same-bytes w (ascii "write")) PollWrite
+    (cond (same-bytes w (ascii "read")) PollRead
+    (cond (same-bytes w (ascii "mode")) PollMode
+    (cond (same-bytes w (ascii "busoff")) PollBusOff (Unreadable UnknownPoll))))
 
 -- sheet N, memory N
 abbrev pub sheet-of : List ℕ → Command

@@ -3,28 +3,29 @@ use Prim.Native.Nat.{ℕ}
 use mathlib.Core.Bool.{Bool, true, false, cond}
 use mathlib.Core.List.{List, [], _∷_}
 use Rattle.rules.specs.Bytes.{same-bytes}
+use Rattle.bench_words.specs.Text.{ascii}
 use Rattle.bench_script.specs.declared.name.Name.{Name}
 use Rattle.bench_script.specs.declared.name.Name.the-variants.{Init, DeInit, Set, Get, Write, Poll, Sent, BusOff, Arrived, Data, Sheet, Memory, Show, State, Controllers, Object, Unknown}
 
 -- the commands' names: init, deinit, set, get, write, poll, sent, busoff, arrived, data, sheet, memory, show, state, controllers, object
 abbrev pub names : List (List ℕ × Name)
 names =
-    (105 ∷ 110 ∷ 105 ∷ 116 ∷ [], Init)
-    ∷ (100 ∷ 101 ∷ 105 ∷ 110 ∷ 105 ∷ 116 ∷ [], DeInit)
-    ∷ (115 ∷ 101 ∷ 116 ∷ [], Set)
-    ∷ (103 ∷ 101 ∷ 116 ∷ [], Get)
-    ∷ (119 ∷ 114 ∷ 105 ∷ 116 ∷ 101 ∷ [], Write)
-    ∷ (112 ∷ 111 ∷ 108 ∷ 108 ∷ [], Poll)
-    ∷ (115 ∷ 101 ∷ 110 ∷ 116 ∷ [], Sent)
-    ∷ (98 ∷ 117 ∷ 115 ∷ 111 ∷ 102 ∷ 102 ∷ [], BusOff)
-    ∷ (97 ∷ 114 ∷ 114 ∷ 105 ∷ 118 ∷ 101 ∷ 100 ∷ [], Arrived)
-    ∷ (100 ∷ 97 ∷ 116 ∷ 97 ∷ [], Data)
-    ∷ (115 ∷ 104 ∷ 101 ∷ 101 ∷ 116 ∷ [], Sheet)
-    ∷ (109 ∷ 101 ∷ 109 ∷ 111 ∷ 114 ∷ 121 ∷ [], Memory)
-    ∷ (115 ∷ 104 ∷ 111 ∷ 119 ∷ [], Show)
-    ∷ (115 ∷ 116 ∷ 97 ∷ 116 ∷ 101 ∷ [], State)
-    ∷ (99 ∷ 111 ∷ 110 ∷ 116 ∷ 114 ∷ 111 ∷ 108 ∷ 108 ∷ 101 ∷ 114 ∷ 115 ∷ [], Controllers)
-    ∷ (111 ∷ 98 ∷ 106 ∷ 101 ∷ 99 ∷ 116 ∷ [], Object)
+    (ascii "init", Init)
+    ∷ (ascii "deinit", DeInit)
+    ∷ (ascii "set", Set)
+    ∷ (ascii "get", Get)
+    ∷ (ascii "write", Write)
+    ∷ (ascii "poll", Poll)
+    ∷ (ascii "sent", Sent)
+    ∷ (ascii "busoff", BusOff)
+    ∷ (ascii "arrived", Arrived)
+    ∷ (ascii "data", Data)
+    ∷ (ascii "sheet", Sheet)
+    ∷ (ascii "memory", Memory)
+    ∷ (ascii "show", Show)
+    ∷ (ascii "state", State)
+    ∷ (ascii "controllers", Controllers)
+    ∷ (ascii "object", Object)
     ∷ []
 
 -- the one of them that a word is

@@ -3,6 +3,7 @@ use Prim.Native.Nat.{ℕ, _-_}
 use mathlib.Core.Bool.{not, cond}
 use mathlib.Core.List.{List, [], _∷_}
 use Rattle.rules.specs.Bytes.{same-bytes}
+use Rattle.bench_words.specs.Text.{ascii}
 use Rattle.bench_words.specs.Split.{is-missing, first, after}
 use Rattle.bench_words.specs.Reading.{number-of, limited-to, identifier-of, one-byte-of, largest-byte}
 use Rattle.bench_script.specs.With.{with-value}
@@ -30,19 +31,19 @@ behind-field text = after (after text)
 
 -- the fixed words
 abbrev pub controller-word : List ℕ
-controller-word = 99 ∷ 111 ∷ 110 ∷ 116 ∷ 114 ∷ 111 ∷ 108 ∷ 108 ∷ 101 ∷ 114 ∷ []
+controller-word = ascii "controller"
 
 abbrev pub payload-word : List ℕ
-payload-word = 112 ∷ 97 ∷ 121 ∷ 108 ∷ 111 ∷ 97 ∷ 100 ∷ []
+payload-word = ascii "payload"
 
 abbrev pub padding-word : List ℕ
-padding-word = 112 ∷ 97 ∷ 100 ∷ 100 ∷ 105 ∷ 110 ∷ 103 ∷ []
+padding-word = ascii "padding"
 
 abbrev pub code-word : List ℕ
-code-word = 99 ∷ 111 ∷ 100 ∷ 101 ∷ []
+code-word = ascii "code"
 
 abbrev pub mask-word : List ℕ
-mask-word = 109 ∷ 97 ∷ 115 ∷ 107 ∷ []
+mask-word = ascii "mask"
 
 -- the first trouble from left to right
 abbrev pub send-made : Reading → Reading → Reading → Command
@@ -73,5 +74,5 @@ sized count text command =
 -- send .. or receive ..
 unfoldable pub object-of : List ℕ → Command
 object-of text =
-    cond (same-bytes (first text) (115 ∷ 101 ∷ 110 ∷ 100 ∷ [])) (sized 6 (after text) (send-of (after text)))
-    (cond (same-bytes (first text) (114 ∷ 101 ∷ 99 ∷ 101 ∷ 105 ∷ 118 ∷ 101 ∷ [])) (sized 8 (after text) (receive-of (after text))) (Unreadable UnknownKind))
+    cond (same-bytes (first text) (ascii "send")) (sized 6 (after text) (send-of (after text)))
+    (cond (same-bytes (first text) (ascii "receive")) (sized 8 (after text) (receive-of (after text))) (Unreadable UnknownKind))

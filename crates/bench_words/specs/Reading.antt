@@ -7,6 +7,7 @@ use lib.ListN.{length, take, drop, getD}
 use lib.Dec.{eqb, ltb, leb}
 use Rattle.rules.specs.Bytes.{same-bytes, splice}
 use Rattle.rules.specs.Repeat.{rising, all-below, list-below}
+use Rattle.bench_words.specs.Text.{ascii}
 use Rattle.bench_words.specs.Split.{next-word, spanned, is-missing, first}
 use Rattle.bench_words.specs.declared.reading.Trouble.{Trouble}
 use Rattle.bench_words.specs.declared.reading.Trouble.the-variants.{LineTooLong, NotANumber, NumberTooLarge, NotAnIdentifier, IdentifierTooLong, NotHexDigits, OddDigits, NotOneByte, NotAMode}
@@ -33,7 +34,7 @@ value base w = rising (length w) (λ i v. v * base + digit-at w i) 0
 
 -- 0x in front
 abbrev pub is-prefixed : List ℕ → Bool
-is-prefixed w = same-bytes (take 2 w) (48 ∷ 120 ∷ [])
+is-prefixed w = same-bytes (take 2 w) (ascii "0x")
 
 -- what follows 0x, the whole word where it is missing
 abbrev pub unprefixed : List ℕ → List ℕ
@@ -96,7 +97,7 @@ bytes-from (suc words) text at bytes =
 
 -- the word - alone stands for no bytes
 abbrev pub is-none : List ℕ → Bool
-is-none text = same-bytes (first text) (45 ∷ []) && is-missing 1 text
+is-none text = same-bytes (first text) (ascii "-") && is-missing 1 text
 
 -- the most bytes of a line
 abbrev pub longest-line : ℕ
@@ -141,6 +142,6 @@ largest-byte = 255
 -- a mode is STARTED, STOPPED, SLEEP or a number
 unfoldable pub mode-of : List ℕ → Reading
 mode-of w =
-    cond (same-bytes w (83 ∷ 84 ∷ 65 ∷ 82 ∷ 84 ∷ 69 ∷ 68 ∷ [])) (Value 1)
-    (cond (same-bytes w (83 ∷ 84 ∷ 79 ∷ 80 ∷ 80 ∷ 69 ∷ 68 ∷ [])) (Value 2)
-    (cond (same-bytes w (83 ∷ 76 ∷ 69 ∷ 69 ∷ 80 ∷ [])) (Value 3) (number-or NotAMode w)))
+    cond (same-bytes w (ascii "STARTED")) (Value 1)
+    (cond (same-bytes w (ascii "STOPPED")) (Value 2)
+    (cond (same-bytes w (ascii "SLEEP")) (Value 3) (number-or NotAMode w)))
