@@ -1,9 +1,8 @@
-// Text in a buffer. Each function writes from position at on and answers the position behind it; where the buffer has no room for the
-// whole, it writes nothing and answers at.
+// Text in a buffer. Each function writes from position at on, as much as fits, and answers the position behind it.
 ghost use mathlib.Core.Path.{_≡_};
-ghost use Prim.Native.Nat.{_+_, _*_, _≤_, _<_, min, max};
-ghost use lib.ListN.{length, replicate};
-ghost use Rattle.rules.specs.Bytes.{splice};
+ghost use mathlib.Core.List.{[], _∷_};
+ghost use Prim.Native.Nat.{_-_, _<_, min};
+ghost use lib.ListN.{replicate};
 ghost use Rattle.bench_text.specs.Put as puts;
 ghost use Rattle.io.specs.Digits as digits;
 use core_layout::bytes::fill;
@@ -19,33 +18,44 @@ pub fn has_room(size: usize, at: usize, count: usize) -> bool
     count <= size - at
 }
 
+// How many of count bytes fit from position at on.
+fn fitting(size: usize, at: usize, count: usize) -> usize
+    ensures { λ r. ⌜ r ≡ min (size - at) count ⌝ }
+{
+    if size < at {
+        return 0;
+    }
+    let room = size - at;
+    if room < count { room } else { count }
+}
+
 // Bytes as they are.
 pub fn put(out: &mut [u8], at: usize, bytes: &[u8]) -> usize
     ensures { λ r. ⌜ puts.Put at (now (bytes .entry)) (now (out .entry)) (now (out .exit)) r ⌝ }
 {
-    if has_room(out.len(), at, bytes.len()) {
-        put_bytes(out, at, bytes);
-        at + bytes.len()
-    } else {
-        at
+    let count = fitting(out.len(), at, bytes.len());
+    if count == 0 {
+        return at;
     }
+    put_bytes(out, at, &bytes[..count]);
+    at + count
 }
 
 // One byte over and over.
 pub fn put_repeated(out: &mut [u8], at: usize, count: usize, byte: u8) -> usize
     ensures { λ r. ⌜ puts.Put at (replicate count byte) (now (out .entry)) (now (out .exit)) r ⌝ }
 {
-    if has_room(out.len(), at, count) {
-        fill(out, at, count, byte);
-        at + count
-    } else {
-        at
+    let fits = fitting(out.len(), at, count);
+    if fits == 0 {
+        return at;
     }
+    fill(out, at, fits, byte);
+    at + fits
 }
 
 // A number in decimal.
 pub fn put_decimal(out: &mut [u8], at: usize, n: u64) -> usize
-    ensures { λ r. ⌜ puts.PutDigits 10 1 n at (now (out .entry)) (now (out .exit)) r ⌝ }
+    ensures { λ r. ⌜ puts.Put at (puts.decimal n) (now (out .entry)) (now (out .exit)) r ⌝ }
 {
     let mut digits = [0u8; 20];
     let count = io::decimal(n, &mut digits);
@@ -54,7 +64,7 @@ pub fn put_decimal(out: &mut [u8], at: usize, n: u64) -> usize
 
 // A number in hexadecimal, with zeros in front up to width digits; a width of 0 counts as 1, and one above 16 as 16.
 pub fn put_hexadecimal(out: &mut [u8], at: usize, n: u64, width: usize) -> usize
-    ensures { λ r. ⌜ puts.PutDigits 16 (min (max width 1) 16) n at (now (out .entry)) (now (out .exit)) r ⌝ }
+    ensures { λ r. ⌜ puts.Put at (puts.hexadecimal width n) (now (out .entry)) (now (out .exit)) r ⌝ }
 {
     let mut digits = [0u8; 16];
     let count = io::hex(n, width, &mut digits);
@@ -69,31 +79,23 @@ fn glyph(n: u8) -> u8
     if n < 10 { n + b'0' } else { n - 10 + b'a' }
 }
 
-// Two hex digits for each byte.
-fn put_pairs(out: &mut [u8], at: usize, bytes: &[u8])
-    requires { ⌜ at + 2 * length (now bytes) ≤ length (now out) ⌝ }
-    ensures { λ _. ⌜ now (out .exit) ≡ splice at (puts.hex-of (now (bytes .entry))) (now (out .entry)) ⌝ }
+// Two hex digits for a byte.
+fn put_pair(out: &mut [u8], at: usize, byte: u8) -> usize
+    ensures { λ r. ⌜ puts.Put at (puts.hex-of (byte ∷ [])) (now (out .entry)) (now (out .exit)) r ⌝ }
 {
-    let mut i = 0;
-    while i < bytes.len() {
-        let b = bytes[i];
-        out[at + 2 * i] = glyph(b / 16);
-        out[at + 2 * i + 1] = glyph(b % 16);
-        i += 1;
-    }
+    let pair = [glyph(byte / 16), glyph(byte % 16)];
+    put(out, at, &pair)
 }
 
 // Bytes as hex digits in pairs.
 pub fn put_hex(out: &mut [u8], at: usize, bytes: &[u8]) -> usize
     ensures { λ r. ⌜ puts.Put at (puts.hex-of (now (bytes .entry))) (now (out .entry)) (now (out .exit)) r ⌝ }
 {
-    if out.len() < at {
-        return at;
+    let mut end = at;
+    let mut i = 0;
+    while i < bytes.len() {
+        end = put_pair(out, end, bytes[i]);
+        i += 1;
     }
-    if bytes.len() <= (out.len() - at) / 2 {
-        put_pairs(out, at, bytes);
-        at + 2 * bytes.len()
-    } else {
-        at
-    }
+    end
 }

@@ -1,42 +1,57 @@
--- `bench_text::put::put` meets its contract: the test says whether there is room, and each branch does what the rule says of it.
-use Prim.Native.Nat.{_+_, _≤_}
-use mathlib.Core.Path.{refl, sym, _∙_}
-use native.Mathlib.Omega.{arith}
+-- `bench_text::put::put` meets its contract: nothing fits, or as much as fits is written.
+use Rattle.bench_text.proofs.Writing.{written, nothing-fits, fitted-is, fitted-long, within}
+use mathlib.Core.Path.{sym}
+use lib.ListN.{length, take}
 use borrow.Author.Needs.{needs}
-use borrow.Author.Tests.{leb-true, leb-false}
-use lib.ListN.{length}
-use Rattle.bench_text.proofs.Writing.{written, refused}
 use Rattle.bench_text.proofs.put.put.Statement.{statement}
 use Rattle.bench_text.proofs.put.put.Tie as tie
 
--- what the test says where it holds
-fits : (c : tie.Then1) → (c .before .before .before .before .args .at + length (c .before .before .before .before .args .bytes .now) ≤ length (c .before .before .before .before .args .out .now))
-fits c = leb-true _ _ (sym (c .before .has-room .ensures) ∙ c .if1 .taken)
+fitting-requires : tie.Need-fitting-requires
+fitting-requires c κs = search needs
 
-has-room-requires : tie.Need-has-room-requires
-has-room-requires c κs = search needs
+returns : tie.Need-returns
+returns c =
+    let a = c .before .before .before .before .args in
+    let n = c .before .fitting .result in
+    let is = c .before .fitting .ensures in
+    nothing-fits (a .at) n (a .bytes .now) (take n (a .bytes .now)) (a .out .now) (fitted-is (a .at) n (a .bytes .now) (a .out .now) is) (fitted-long (a .at) n (a .bytes .now) (a .out .now) is)
+    (c .if1 .taken)
+
+slice-aggregate-put-bytes : tie.Need-slice-aggregate-put-bytes
+slice-aggregate-put-bytes c =
+    let a = c .before .before .before .before .before .before .args in
+    let made = c .before .before .before .fitting in
+    sym (fitted-long (a .at) (made .result) (a .bytes .now) (a .out .now) (made .ensures))
 
 put-bytes-requires : tie.Need-put-bytes-requires
-put-bytes-requires c κs = fits (c .before)
+put-bytes-requires c κs =
+    let a = c .before .before .before .before .before .before .args in
+    let made = c .before .before .before .fitting in
+    rw (fitted-long (a .at) (made .result) (a .bytes .now) (a .out .now) (made .ensures))
+    (within (length (a .out .now)) (a .at) (length (a .bytes .now)) (made .result) (made .ensures) (c .before .before .if1 .left))
 
 add-result : tie.Need-add-result
-add-result c = omega (arith, fits (c .before .before .before .before))
+add-result c = search needs
 
 same-length : tie.Need-same-length
 same-length c = search needs
 
-returns : tie.Need-returns
-returns c =
-    let stored = c .before .before in
-    let a = stored .before .before .before .before .before .before .args in
-    written (a .at) (length (a .bytes .now)) (a .bytes .now) (a .out .now) refl (fits (stored .before .before)) (stored .put-bytes .ensures)
-
 returns-2 : tie.Need-returns-2
 returns-2 c =
-    let a = c .before .before .before .before .args in
-    refused (a .at) (length (a .bytes .now)) (a .bytes .now) (a .out .now) refl (leb-false _ _ (sym (c .before .has-room .ensures) ∙ c .if1 .left))
+    let a = c .before .before .before .before .before .before .before .before .before .args in
+    let made = c .before .before .before .before .before .before .fitting in
+    let n = made .result in
+    written (a .at) n (a .bytes .now) (take n (a .bytes .now)) (a .out .now) (fitted-is (a .at) n (a .bytes .now) (a .out .now) (made .ensures)) (fitted-long (a .at) n (a .bytes .now) (a .out .now) (made .ensures))
+    (c .before .before .put-bytes .ensures)
 
 pub put-spec : {M : Type 1} → statement M
 put-spec =
     tie.close
-    (tie.spec has-room-requires put-bytes-requires add-result same-length returns returns-2)
+    (tie.spec
+    fitting-requires
+    returns
+    slice-aggregate-put-bytes
+    put-bytes-requires
+    add-result
+    same-length
+    returns-2)

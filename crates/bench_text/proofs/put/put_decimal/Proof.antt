@@ -1,4 +1,6 @@
 -- `bench_text::put::put_decimal` meets its contract: the part of the local array that is written is the digits that `decimal` made.
+use native.Mathlib.Omega.{arith}
+use Rattle.bench_text.proofs.Writing.{numeral-is}
 use borrow.Author.Needs.{needs}
 use Rattle.bench_text.proofs.put.put_decimal.Statement.{statement}
 use Rattle.bench_text.proofs.put.put_decimal.Tie as tie
@@ -21,8 +23,9 @@ same-length c = search needs
 returns : tie.Need-returns
 returns c =
     let wrote = c .before .before in
+    let a = c .before .before .before .before .before .before .before .before .args in
     let made = wrote .before .before .before .decimal in
-    record { count = made .result; fewest = made .ensures .1 .0; put = rw (made .ensures .1 .1) at (wrote .put .ensures) }
+    rw (made .ensures .1 .1, numeral-is 10 (omega arith) (made .result) 1 (a .n) (made .ensures .1 .0)) at (wrote .put .ensures)
 
 pub put-decimal-spec : {M : Type 1} → statement M
 put-decimal-spec =

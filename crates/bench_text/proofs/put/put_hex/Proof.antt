@@ -1,56 +1,67 @@
--- `bench_text::put::put_hex` meets its contract: as many bytes as half the room have two digits each in it, and no more have.
-use Prim.Native.Nat.{_*_}
+-- `bench_text::put::put_hex` meets its contract: a turn of the loop writes the digits of a byte behind those of the bytes before it.
+use Prim.Native.Nat.{_-_, _≤_, _<_}
+use mathlib.Core.Path.{_≡_, refl}
+use mathlib.Core.List.{[], _∷_}
 use native.Mathlib.Omega.{arith}
+use native.Mathlib.Numerals.{add-one}
 use borrow.Author.Needs.{needs}
-use lib.ListN.{length}
-use Rattle.bench_text.specs.Put.{hex-of}
-use Rattle.bench_text.proofs.Writing.{written, refused, length-hex-of}
+use lib.ListN.{length, take, getD}
+use lib.Seq.{take-suc, take-all}
+use Rattle.bench_text.specs.Put.{Put, hex-of}
+use Rattle.bench_text.proofs.Writing.{nothing, then, hex-of-more}
 use Rattle.bench_text.proofs.put.put_hex.Statement.{statement}
 use Rattle.bench_text.proofs.put.put_hex.Tie as tie
 
-returns : tie.Need-returns
-returns c =
-    let a = c .before .before .before .args in
-    let bytes = a .bytes .now in
-    refused (a .at) (2 * length bytes) (hex-of bytes) (a .out .now) (length-hex-of bytes) (omega arith)
+abbrev Inv-loop : tie.InvT-loop
+Inv-loop out₀ at bytes end₀ i₀ out end i = (i ≤ length bytes) × (length out ≡ length out₀) × Put at (hex-of (take i bytes)) out₀ out end
 
-sub-if2 : tie.Need-sub-if2
-sub-if2 c = search needs
+abbrev μ-loop : tie.MeasureT-loop
+μ-loop out₀ at bytes end₀ i₀ out end i = length bytes - i
 
-put-pairs-requires : tie.Need-put-pairs-requires
-put-pairs-requires c κs = search needs
+loop-holds : tie.Need-loop-holds Inv-loop μ-loop
+unfolding hex-of
+loop-holds c = let a = c .before .before .args in (omega arith, refl, nothing (a .at) (a .out .now))
 
-mul-result : tie.Need-mul-result
-mul-result c = search needs
+shared-slice-read-put-pair : tie.Need-shared-slice-read-put-pair Inv-loop μ-loop
+shared-slice-read-put-pair c = search needs
 
-add-result : tie.Need-add-result
-add-result c = search needs
+put-pair-requires : tie.Need-put-pair-requires Inv-loop μ-loop
+put-pair-requires c κs = search needs
 
-same-length : tie.Need-same-length
-same-length c = search needs
+add-i : tie.Need-add-i Inv-loop μ-loop
+add-i c = search needs
 
-returns-2 : tie.Need-returns-2
-returns-2 c =
-    let stored = c .before .before in
-    let a = c .before .before .before .before .before .before .before .before .args in
-    let bytes = a .bytes .now in
-    written (a .at) (2 * length bytes) (hex-of bytes) (a .out .now) (length-hex-of bytes) (omega arith) (stored .put-pairs .ensures)
+loop-less : tie.Need-loop-less Inv-loop μ-loop
+loop-less c = search needs
 
-returns-3 : tie.Need-returns-3
-returns-3 c =
-    let a = c .before .before .before .before .args in
-    let bytes = a .bytes .now in
-    refused (a .at) (2 * length bytes) (hex-of bytes) (a .out .now) (length-hex-of bytes) (omega arith)
+loop-again : tie.Need-loop-again Inv-loop μ-loop
+loop-again c =
+    let turn = c .before .before .before .before .before .before .loop in
+    let a = c .before .before .before .before .before .before .before .before .before .args in
+    let b = getD (a .bytes .now) (turn .i) 0 in
+    let more : turn .i < length (a .bytes .now) = search needs in
+    let wrote = then (a .at) (turn .end) (c .before .before .put-pair .result) (hex-of (take (turn .i) (a .bytes .now))) (hex-of (b ∷ [])) (a .out .now) (turn .inv .2) (c .before .before .put-pair .ensures) in
+    (search needs, search needs, rw (add-one, take-suc (a .bytes .now) (turn .i) 0 more, hex-of-more) wrote)
+
+same-length : tie.Need-same-length Inv-loop μ-loop
+same-length c = c .before .loop .inv .1
+
+returns : tie.Need-returns Inv-loop μ-loop
+returns c = let a = c .before .before .before .before .args in
+    let all : take (c .before .loop .i) (a .bytes .now) ≡ a .bytes .now = take-all (c .before .loop .i) (a .bytes .now) (omega arith) in
+    rw all at (c .before .loop .inv .2)
 
 pub put-hex-spec : {M : Type 1} → statement M
 put-hex-spec =
     tie.close
     (tie.spec
-    returns
-    sub-if2
-    put-pairs-requires
-    mul-result
-    add-result
+    Inv-loop
+    μ-loop
+    loop-holds
+    shared-slice-read-put-pair
+    put-pair-requires
+    add-i
+    loop-less
+    loop-again
     same-length
-    returns-2
-    returns-3)
+    returns)

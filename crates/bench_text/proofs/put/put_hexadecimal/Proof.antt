@@ -1,4 +1,7 @@
 -- `bench_text::put::put_hexadecimal` meets its contract: the part of the local array that is written is the digits that `hex` made.
+use native.Mathlib.Omega.{arith}
+use Rattle.bench_text.proofs.Writing.{numeral-is}
+use Prim.Native.Nat.{min, max}
 use borrow.Author.Needs.{needs}
 use Rattle.bench_text.proofs.put.put_hexadecimal.Statement.{statement}
 use Rattle.bench_text.proofs.put.put_hexadecimal.Tie as tie
@@ -21,8 +24,9 @@ same-length c = search needs
 returns : tie.Need-returns
 returns c =
     let wrote = c .before .before in
+    let a = c .before .before .before .before .before .before .before .before .args in
     let made = wrote .before .before .before .hex in
-    record { count = made .result; fewest = made .ensures .1 .0; put = rw (made .ensures .1 .1) at (wrote .put .ensures) }
+    rw (made .ensures .1 .1, numeral-is 16 (omega arith) (made .result) (min (max (a .width) 1) 16) (a .n) (made .ensures .1 .0)) at (wrote .put .ensures)
 
 pub put-hexadecimal-spec : {M : Type 1} → statement M
 put-hexadecimal-spec =

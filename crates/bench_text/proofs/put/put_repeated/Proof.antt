@@ -1,43 +1,39 @@
--- `bench_text::put::put_repeated` meets its contract: the test says whether there is room, and each branch does what the rule says of it.
-use Prim.Native.Nat.{_+_, _≤_}
-use mathlib.Core.Path.{sym, _∙_}
-use native.Mathlib.Omega.{arith}
-use borrow.Author.Needs.{needs}
-use borrow.Author.Tests.{leb-true, leb-false}
+-- `bench_text::put::put_repeated` meets its contract: nothing fits, or as much as fits is written.
+use Prim.Native.Nat.{_-_}
+use mathlib.Core.Path.{sym}
+use Rattle.bench_text.proofs.Writing.{written, nothing-fits, take-replicate}
 use lib.ListN.{length, replicate, length-replicate}
-use Rattle.bench_text.proofs.Writing.{written, refused}
+use borrow.Author.Needs.{needs}
 use Rattle.bench_text.proofs.put.put_repeated.Statement.{statement}
 use Rattle.bench_text.proofs.put.put_repeated.Tie as tie
 
--- what the test says where it holds
-fits : (c : tie.Then1) → (c .before .before .before .args .at + c .before .before .before .args .count ≤ length (c .before .before .before .args .out .now))
-fits c = leb-true _ _ (sym (c .before .has-room .ensures) ∙ c .if1 .taken)
+fitting-requires : tie.Need-fitting-requires
+fitting-requires c κs = search needs
 
-has-room-requires : tie.Need-has-room-requires
-has-room-requires c κs = search needs
+returns : tie.Need-returns
+returns c =
+    let a = c .before .before .before .args in
+    let made = c .before .fitting in
+    let n = made .result in
+    nothing-fits (a .at) n (replicate (a .count) (a .byte)) (replicate n (a .byte)) (a .out .now) (rw (made .ensures) (sym (take-replicate (length (a .out .now) - a .at) (a .count) (a .byte)))) (length-replicate n (a .byte)) (c .if1 .taken)
 
 fill-requires : tie.Need-fill-requires
-fill-requires c κs = fits (c .before)
+fill-requires c κs = search needs
 
 add-result : tie.Need-add-result
-add-result c = omega (arith, fits (c .before .before .before .before))
+add-result c = search needs
 
 same-length : tie.Need-same-length
 same-length c = search needs
 
-returns : tie.Need-returns
-returns c =
-    let stored = c .before .before in
-    let a = stored .before .before .before .before .before .args in
-    written (a .at) (a .count) (replicate (a .count) (a .byte)) (a .out .now) (length-replicate (a .count) (a .byte)) (fits (stored .before .before))
-    (stored .fill .ensures)
-
 returns-2 : tie.Need-returns-2
 returns-2 c =
-    let a = c .before .before .before .args in
-    refused (a .at) (a .count) (replicate (a .count) (a .byte)) (a .out .now) (length-replicate (a .count) (a .byte))
-    (leb-false _ _ (sym (c .before .has-room .ensures) ∙ c .if1 .left))
+    let a = c .before .before .before .before .before .before .before .args in
+    let made = c .before .before .before .before .before .fitting in
+    let n = made .result in
+    written (a .at) n (replicate (a .count) (a .byte)) (replicate n (a .byte)) (a .out .now) (rw (made .ensures) (sym (take-replicate (length (a .out .now) - a .at) (a .count) (a .byte)))) (length-replicate n (a .byte))
+    (c .before .before .fill .ensures)
 
 pub put-repeated-spec : {M : Type 1} → statement M
 put-repeated-spec =
-    tie.close (tie.spec has-room-requires fill-requires add-result same-length returns returns-2)
+    tie.close (tie.spec fitting-requires returns fill-requires add-result same-length returns-2)
