@@ -6,10 +6,10 @@ use mathlib.Core.Path.{_≡_, refl, sym, ap, _∙_}
 use mathlib.Core.Bool.{true, false}
 use mathlib.Core.List.{List}
 use lib.ListN.{length, getD, take, drop, length-drop, List·getD-eq-default}
-use lib.Seq.{length-take-le, take-length}
+use lib.Seq.{length-take-le, take-length, take-all}
 use borrow.Author.Tests.{lt-ltb, le-ltb, le-leb, lt-leb, ne-eqb}
 use Rattle.bytes.specs.Bytes.{slice, indexOf}
-use Rattle.bench_text.specs.Put.{Put}
+use Rattle.bench_text.specs.Put.{Put, fitting}
 use Rattle.bench_lines.specs.Line.{LF, CR, TOO-LONG, has-room, Kept, line-length, line-part, line-ends, Stretched, Refilled, line-count, piece-size, Advanced}
 use Rattle.bench_lines.specs.declared.reader.Reader.{Reader}
 
@@ -17,7 +17,8 @@ module _ (count : ℕ) (more before : List ℕ) where
   pub kept : {after : List ℕ} {r : ℕ} → count + length more ≤ length before → Put count more before after r → Kept count more before after r
   kept h put =
       let room : has-room before count more ≡ true = le-leb (count + length more) (length before) h in
-      record { line-is = put .text-is; count-is = rw room (put .end-is ∙ rw room) }
+      let whole : fitting (length before) count more ≡ more = take-all (length before - count) more (omega arith) in
+      record { line-is = rw room (rw whole at (put .text-is)); count-is = rw room (rw whole at (put .end-is)) }
 
   pub kept-nothing : length before < count + length more → Kept count more before before TOO-LONG
   kept-nothing h =

@@ -1,0 +1,3 @@
+-- Laws of numbers in columns, and of a text filled byte by byte.
+pub mod Columns
+pub mod Saying

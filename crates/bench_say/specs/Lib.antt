@@ -1,0 +1,3 @@
+-- Texts with holes for numbers.
+pub mod Form
+pub mod Say

@@ -1,0 +1,3 @@
+// Texts with holes for numbers.
+pub mod form;
+pub mod say;
