@@ -31,7 +31,7 @@ module _ (at : ℕ) (text numbers before : List ℕ) where
       record {
         done = s .done ++ turn hole b n;
         put = then at m r (s .done) (turn hole b n) before (s .put) p;
-        rest = s .rest ∙ rw (drop-cons text i 0 h, first, drop-drop, append-assoc)
+        rest = s .rest ∙ rw (drop-cons text i 0 h, first, drop-drop, append-assoc);
       }
 
   -- at its end

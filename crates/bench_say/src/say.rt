@@ -99,7 +99,13 @@ pub fn say(out: &mut [u8], at: usize, text: &[u8], numbers: [u64; NUMBERS]) -> u
 }
 
 // One of several texts in a row.
-pub fn say_one(out: &mut [u8], at: usize, texts: &[u8], place: usize, numbers: [u64; NUMBERS]) -> usize
+pub fn say_one(
+    out: &mut [u8],
+    at: usize,
+    texts: &[u8],
+    place: usize,
+    numbers: [u64; NUMBERS],
+) -> usize
     ensures { λ r. ⌜ Put at (says.said-of (piece place (now (texts .entry))) numbers) (now (out .entry)) (now (out .exit)) r ⌝ }
 {
     say(out, at, piece(texts, place), numbers)

@@ -1,0 +1,60 @@
+-- `bench_messages::states::to_send` meets its contract: each test picks its text.
+use borrow.Author.Needs.{needs}
+use Rattle.bench_messages.proofs.states.to_send.Statement.{statement}
+use Rattle.bench_messages.proofs.states.to_send.Tie as tie
+
+slice-aggregate-say : tie.Need-slice-aggregate-say
+slice-aggregate-say c = search needs
+
+say-requires : tie.Need-say-requires
+say-requires c κs = search needs
+
+same-length : tie.Need-same-length
+same-length c = search needs
+
+returns : tie.Need-returns
+returns c =
+    rw (c .before .before .before .before .before .if1 .taken) (c .before .before .say .ensures)
+
+slice-aggregate-say-2 : tie.Need-slice-aggregate-say-2
+slice-aggregate-say-2 c = search needs
+
+say-requires-2 : tie.Need-say-requires-2
+say-requires-2 c κs = search needs
+
+same-length-2 : tie.Need-same-length-2
+same-length-2 c = search needs
+
+returns-2 : tie.Need-returns-2
+returns-2 c =
+    rw (c .before .before .before .before .before .before .if1 .left, c .before .before .before .before .before .if2 .taken) (c .before .before .say2 .ensures)
+
+slice-aggregate-say-3 : tie.Need-slice-aggregate-say-3
+slice-aggregate-say-3 c = search needs
+
+say-requires-3 : tie.Need-say-requires-3
+say-requires-3 c κs = search needs
+
+same-length-3 : tie.Need-same-length-3
+same-length-3 c = search needs
+
+returns-3 : tie.Need-returns-3
+returns-3 c =
+    rw (c .before .before .before .before .before .before .if1 .left, c .before .before .before .before .before .if2 .left) (c .before .before .say3 .ensures)
+
+pub to-send-spec : {M : Type 1} → statement M
+to-send-spec =
+    tie.close
+    (tie.spec
+    slice-aggregate-say
+    say-requires
+    same-length
+    returns
+    slice-aggregate-say-2
+    say-requires-2
+    same-length-2
+    returns-2
+    slice-aggregate-say-3
+    say-requires-3
+    same-length-3
+    returns-3)

@@ -1,0 +1,47 @@
+-- What an accepted call answers, in words.
+use Prim.Native.Nat.{ℕ}
+use Prim.Native.String.{String}
+use mathlib.Core.Bool.{cond}
+use mathlib.Core.List.{List}
+use lib.Dec.{eqb}
+use Rattle.can_calls.specs.declared.request.Function.{Function}
+use Rattle.can_calls.specs.declared.request.Function.the-variants.{Init, DeInit, Set, Get, Write, PollWrite, PollRead, PollMode, PollBusOff, Sent, BusOff, Arrived}
+use Rattle.can_calls.specs.declared.answer.Answer.{Answer}
+use Rattle.can_calls.specs.declared.answer.Answer.the-variants.{Nothing, Mode, TakenBy, Stored, Unwanted, Lost}
+use Rattle.bench_say.specs.Say.{five}
+
+-- a poll that told so many notifications: they stand in lines of their own
+abbrev pub polled-text : ℕ → String
+polled-text told = cond (eqb told 0) "accepted: nothing to report" "accepted"
+
+-- a call that answers nothing but its verdict
+abbrev pub verdict-text : Function → ℕ → String
+verdict-text Init told = "accepted: %c, %o"
+verdict-text DeInit told = "accepted"
+verdict-text Set told = "accepted: waits for the mode poll"
+verdict-text Get told = "accepted"
+verdict-text Write told = "accepted"
+verdict-text PollWrite told = polled-text told
+verdict-text PollRead told = polled-text told
+verdict-text PollMode told = polled-text told
+verdict-text PollBusOff told = polled-text told
+verdict-text Sent told = "accepted"
+verdict-text BusOff told = "accepted"
+verdict-text Arrived told = "accepted"
+
+abbrev pub answer-text : Answer → Function → ℕ → String
+answer-text Nothing function told = verdict-text function told
+answer-text (Mode m) function told = "%m"
+answer-text (TakenBy h) function told = "accepted: waits in object %0"
+answer-text (Stored h) function told = "stored in object %0"
+answer-text Unwanted function told = "unwanted: no object fits"
+answer-text Lost function told = "lost: every object that fits is full"
+
+-- the numbers of an answer: those of the configuration in use where nothing else is answered
+abbrev pub answer-numbers : Answer → ℕ → ℕ → List ℕ
+answer-numbers Nothing controllers objects = five controllers objects 0 0 0
+answer-numbers (Mode m) controllers objects = five m 0 0 0 0
+answer-numbers (TakenBy h) controllers objects = five h 0 0 0 0
+answer-numbers (Stored h) controllers objects = five h 0 0 0 0
+answer-numbers Unwanted controllers objects = five 0 0 0 0 0
+answer-numbers Lost controllers objects = five 0 0 0 0 0

@@ -1,0 +1,35 @@
+-- The driver state in words.
+use Prim.Native.Nat.{ℕ}
+use mathlib.Core.Bool.{Bool, cond}
+use lib.Dec.{eqb}
+use mathlib.Core.List.{List}
+use Rattle.bench_say.specs.Say.{said, five}
+
+-- whether the driver is initialised, and how much is configured
+abbrev pub counts : Bool → ℕ → ℕ → List ℕ
+counts initialised controllers objects = said (cond initialised "initialised: %c, %o" "not initialised") (five controllers objects 0 0 0)
+
+-- a controller: its mode, the mode that it is asked for, where there is one, and whether it is off the bus
+abbrev pub controller : ℕ → ℕ → ℕ → Bool → List ℕ
+controller place mode asked off =
+    said
+    (cond off
+    (cond (eqb asked 0) "          controller %2  %m, off the bus\n" "          controller %2  %m, asked for %m, off the bus\n")
+    (cond (eqb asked 0) "          controller %2  %m\n" "          controller %2  %m, asked for %m\n"))
+    (five place mode asked 0 0)
+
+-- an object as the configuration in words has it
+abbrev pub sending : ℕ → ℕ → ℕ → ℕ → List ℕ
+sending object controller payload padding =
+    said "          object     %2  send controller %0 payload %0 padding %h" (five object controller payload padding 0)
+
+abbrev pub receiving : ℕ → ℕ → ℕ → ℕ → ℕ → List ℕ
+receiving object controller payload code mask =
+    said "          object     %2  receive controller %0 payload %0 code %x mask %x" (five object controller payload code mask)
+
+-- what a sending object holds, and a receiving one
+abbrev pub to-send : Bool → Bool → List ℕ
+to-send pending done = said (cond done ": sent, not yet confirmed\n" (cond pending ": waits to be sent\n" ": free\n")) (five 0 0 0 0 0)
+
+abbrev pub to-read : Bool → List ℕ
+to-read full = said (cond full ": full\n" ": empty\n") (five 0 0 0 0 0)

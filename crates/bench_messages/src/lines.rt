@@ -1,0 +1,62 @@
+// How a line of the plain style begins, and what stands between its parts.
+ghost use Rattle.bench_text.specs.Put.{Put};
+ghost use Rattle.bench_messages.specs.Lines as lines;
+use bench_say::say::say;
+
+// The number of a line.
+pub fn number(out: &mut [u8], at: usize, line: u64) -> usize
+    ensures { λ r. ⌜ Put at (lines.number line) (now (out .entry)) (now (out .exit)) r ⌝ }
+{
+    say(out, at, b"%6  ", [line, 0, 0, 0, 0])
+}
+
+// What a line looks at.
+pub fn data(out: &mut [u8], at: usize, line: u64, object: u64) -> usize
+    ensures { λ r. ⌜ Put at (lines.data-of line object) (now (out .entry)) (now (out .exit)) r ⌝ }
+{
+    say(out, at, b"%6  data of object %0", [line, object, 0, 0, 0])
+}
+
+pub fn show(out: &mut [u8], at: usize, line: u64, object: u64) -> usize
+    ensures { λ r. ⌜ Put at (lines.show line object) (now (out .entry)) (now (out .exit)) r ⌝ }
+{
+    say(out, at, b"%6  show object %0", [line, object, 0, 0, 0])
+}
+
+pub fn no_object(out: &mut [u8], at: usize) -> usize
+    ensures { λ r. ⌜ Put at (lines.no-object) (now (out .entry)) (now (out .exit)) r ⌝ }
+{
+    say(out, at, b"there is no such object\n", [0, 0, 0, 0, 0])
+}
+
+pub fn state(out: &mut [u8], at: usize, line: u64) -> usize
+    ensures { λ r. ⌜ Put at (lines.state line) (now (out .entry)) (now (out .exit)) r ⌝ }
+{
+    say(out, at, b"%6  state", [line, 0, 0, 0, 0])
+}
+
+// A line that is not understood, and what was expected.
+pub fn not_understood(out: &mut [u8], at: usize, line: u64) -> usize
+    ensures { λ r. ⌜ Put at (lines.not-understood line) (now (out .entry)) (now (out .exit)) r ⌝ }
+{
+    say(out, at, b"%6  not understood: ", [line, 0, 0, 0, 0])
+}
+
+pub fn but_expected(out: &mut [u8], at: usize) -> usize
+    ensures { λ r. ⌜ Put at (lines.but-expected) (now (out .entry)) (now (out .exit)) r ⌝ }
+{
+    say(out, at, b"; expected ", [0, 0, 0, 0, 0])
+}
+
+// What may have been meant by a line that begins with a byte order mark, or has a CR.
+pub fn order_mark(out: &mut [u8], at: usize) -> usize
+    ensures { λ r. ⌜ Put at (lines.order-mark) (now (out .entry)) (now (out .exit)) r ⌝ }
+{
+    say(out, at, b" (a byte order mark?)", [0, 0, 0, 0, 0])
+}
+
+pub fn lone_cr(out: &mut [u8], at: usize) -> usize
+    ensures { λ r. ⌜ Put at (lines.lone-cr) (now (out .entry)) (now (out .exit)) r ⌝ }
+{
+    say(out, at, b" (lines that end in CR alone?)", [0, 0, 0, 0, 0])
+}

@@ -1,0 +1,204 @@
+// What is wrong with a line of a script, and what was expected.
+ghost use mathlib.Core.Path.{_≡_};
+ghost use Rattle.bench_text.specs.Put.{Put};
+ghost use Rattle.bench_words.specs.Text.{ascii};
+ghost use Rattle.bench_messages.specs.Troubles.{trouble-text, usage-text, word-text, is-of-command, command-of, expected-text};
+ghost use Rattle.bench_messages.specs.Places.{trouble-place, name-place};
+use bench_script::name::Name;
+use bench_text::put::put;
+use bench_words::piece::piece;
+use bench_words::reading::Trouble;
+
+fn place(trouble: Trouble) -> usize
+    ensures { λ r. ⌜ r ≡ trouble-place trouble ⌝ }
+{
+    match trouble {
+        Trouble::LineTooLong => 0,
+        Trouble::UnknownCommand => 1,
+        Trouble::WordMissing => 2,
+        Trouble::WordTooMany => 3,
+        Trouble::NotANumber => 4,
+        Trouble::NumberTooLarge => 5,
+        Trouble::NotAnIdentifier => 6,
+        Trouble::IdentifierTooLong => 7,
+        Trouble::NotHexDigits => 8,
+        Trouble::OddDigits => 9,
+        Trouble::NotOneByte => 10,
+        Trouble::NotAMode => 11,
+        Trouble::UnknownPoll => 12,
+        Trouble::HandleTooLarge => 13,
+        Trouble::SheetTooLong => 14,
+        Trouble::MemoryTooLong => 15,
+        Trouble::ByteTooLarge => 16,
+        Trouble::UnexpectedWord => 17,
+        Trouble::UnknownKind => 18,
+        Trouble::TooManyObjects => 19,
+    }
+}
+
+// What is wrong with a line.
+pub fn trouble(out: &mut [u8], at: usize, trouble: Trouble) -> usize
+    ensures { λ r. ⌜ Put at (ascii (trouble-text trouble)) (now (out .entry)) (now (out .exit)) r ⌝ }
+{
+    let texts = b"line too long|\
+        unknown command|\
+        a word is missing|\
+        a word too many|\
+        not a number|\
+        number too large|\
+        not an identifier|\
+        identifier too long|\
+        not hex digits|\
+        odd number of digits|\
+        not one byte|\
+        not a mode|\
+        unknown poll|\
+        handle too large|\
+        sheet too long|\
+        memory too long|\
+        does not fit a byte|\
+        unexpected word|\
+        unknown kind of object|\
+        too many objects";
+    put(out, at, piece(texts, place(trouble)))
+}
+
+fn place_of(name: Name) -> usize
+    ensures { λ r. ⌜ r ≡ name-place name ⌝ }
+{
+    match name {
+        Name::Init => 0,
+        Name::DeInit => 1,
+        Name::Set => 2,
+        Name::Get => 3,
+        Name::Write => 4,
+        Name::Poll => 5,
+        Name::Sent => 6,
+        Name::BusOff => 7,
+        Name::Arrived => 8,
+        Name::Data => 9,
+        Name::Sheet => 10,
+        Name::Memory => 11,
+        Name::Show => 12,
+        Name::State => 13,
+        Name::Controllers => 14,
+        Name::Object => 15,
+        Name::Unknown => 16,
+    }
+}
+
+// The words of a command.
+fn usage(out: &mut [u8], at: usize, name: Name) -> usize
+    ensures { λ r. ⌜ Put at (ascii (usage-text name)) (now (out .entry)) (now (out .exit)) r ⌝ }
+{
+    let texts = b"init BYTES, or init alone|\
+        deinit|\
+        set CONTROLLER MODE|\
+        get CONTROLLER|\
+        write OBJECT HANDLE ID BYTES|\
+        poll write, poll read, poll mode or poll busoff|\
+        sent OBJECT|\
+        busoff CONTROLLER|\
+        arrived CONTROLLER ID BYTES|\
+        data OBJECT|\
+        sheet WORDS|\
+        memory BYTES|\
+        show OBJECT|\
+        state|\
+        controllers COUNT|\
+        object send controller C payload P padding XX, or object receive controller C payload P code ID mask ID|\
+        init, controllers, object, deinit, set, get, write, poll, sent, busoff, arrived, data, sheet, memory, show or state";
+    put(out, at, piece(texts, place_of(name)))
+}
+
+// What was expected instead of a word; the troubles with a whole command have none here.
+fn expected_word(out: &mut [u8], at: usize, trouble: Trouble) -> usize
+    ensures { λ r. ⌜ Put at (ascii (word-text trouble)) (now (out .entry)) (now (out .exit)) r ⌝ }
+{
+    let texts = b"at most 8192 bytes|\
+        |\
+        |\
+        |\
+        decimal digits, or 0x and hex digits|\
+        at most 4294967295|\
+        hex digits, with or without 0x|\
+        at most 8 hex digits|\
+        hex digits in pairs, or - alone for none|\
+        two hex digits for each byte|\
+        two hex digits|\
+        STARTED, STOPPED, SLEEP or a number|\
+        |\
+        at most 65535|\
+        at most 4096 words|\
+        at most 16384 bytes|\
+        at most 255|\
+        |\
+        send or receive|\
+        at most 255";
+    put(out, at, piece(texts, place(trouble)))
+}
+
+// Whether a trouble is with the whole of a command, and with which one.
+fn is_of_command(trouble: Trouble) -> bool
+    ensures { λ r. ⌜ r ≡ is-of-command trouble ⌝ }
+{
+    match trouble {
+        Trouble::LineTooLong => false,
+        Trouble::UnknownCommand => true,
+        Trouble::WordMissing => true,
+        Trouble::WordTooMany => true,
+        Trouble::NotANumber => false,
+        Trouble::NumberTooLarge => false,
+        Trouble::NotAnIdentifier => false,
+        Trouble::IdentifierTooLong => false,
+        Trouble::NotHexDigits => false,
+        Trouble::OddDigits => false,
+        Trouble::NotOneByte => false,
+        Trouble::NotAMode => false,
+        Trouble::UnknownPoll => true,
+        Trouble::HandleTooLarge => false,
+        Trouble::SheetTooLong => false,
+        Trouble::MemoryTooLong => false,
+        Trouble::ByteTooLarge => false,
+        Trouble::UnexpectedWord => true,
+        Trouble::UnknownKind => false,
+        Trouble::TooManyObjects => false,
+    }
+}
+
+fn command_of(trouble: Trouble, name: Name) -> Name
+    ensures { λ r. ⌜ r ≡ command-of trouble name ⌝ }
+{
+    match trouble {
+        Trouble::LineTooLong => name,
+        Trouble::UnknownCommand => name,
+        Trouble::WordMissing => name,
+        Trouble::WordTooMany => name,
+        Trouble::NotANumber => name,
+        Trouble::NumberTooLarge => name,
+        Trouble::NotAnIdentifier => name,
+        Trouble::IdentifierTooLong => name,
+        Trouble::NotHexDigits => name,
+        Trouble::OddDigits => name,
+        Trouble::NotOneByte => name,
+        Trouble::NotAMode => name,
+        Trouble::UnknownPoll => Name::Poll,
+        Trouble::HandleTooLarge => name,
+        Trouble::SheetTooLong => name,
+        Trouble::MemoryTooLong => name,
+        Trouble::ByteTooLarge => name,
+        Trouble::UnexpectedWord => Name::Object,
+        Trouble::UnknownKind => name,
+        Trouble::TooManyObjects => name,
+    }
+}
+
+// What was expected of a line that begins with a command's name.
+pub fn expected(out: &mut [u8], at: usize, trouble: Trouble, name: Name) -> usize
+    ensures { λ r. ⌜ Put at (ascii (expected-text trouble name)) (now (out .entry)) (now (out .exit)) r ⌝ }
+{
+    if is_of_command(trouble) {
+        return usage(out, at, command_of(trouble, name));
+    }
+    expected_word(out, at, trouble)
+}
