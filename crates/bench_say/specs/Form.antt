@@ -7,7 +7,11 @@ use lib.ListN.{length, replicate}
 use lib.Dec.{eqb, leb}
 use Rattle.rules.specs.Can.{is-extended, is-fd}
 use Rattle.bench_words.specs.Text.{ascii}
-use Rattle.bench_text.specs.Put.{decimal, hexadecimal}
+use Rattle.bench_text.specs.Put.{decimal, hexadecimal, hex-of}
+
+-- bytes as hex digits, - for none
+abbrev pub hex-or-none : List ℕ → List ℕ
+hex-or-none bytes = cond (eqb (length bytes) 0) (ascii "-") (hex-of bytes)
 
 abbrev pub spaces : ℕ → List ℕ
 spaces n = replicate n (code " ")

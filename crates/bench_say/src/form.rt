@@ -1,16 +1,35 @@
 // The forms of a number in a text. Each goes to position at of out, as much of it as fits, and the answer is the position behind it.
 ghost use mathlib.Core.Path.{_≡_};
-ghost use Prim.Native.Nat.{_-_, _%_, _^_, _<_, max};
+ghost use Prim.Native.Nat.{_-_, _%_, _^_};
+ghost use mathlib.Core.List.{_++_};
 ghost use lib.ListN.{length};
 ghost use Rattle.bench_text.specs.Put.{Put, decimal};
 ghost use Rattle.bench_say.specs.Form as forms;
 use bench_text::put::put;
 use bench_text::put::put_decimal;
+use bench_text::put::put_hex;
 use bench_text::put::put_hexadecimal;
 use bench_text::put::put_repeated;
-use bench_words::piece::piece;
 use can_frame::identifier::is_extended;
 use can_frame::identifier::is_fd;
+
+// A number with a word before it.
+pub fn numbered(out: &mut [u8], at: usize, word: &[u8], n: u64) -> usize
+    ensures { λ r. ⌜ Put at (now (word .entry) ++ decimal n) (now (out .entry)) (now (out .exit)) r ⌝ }
+{
+    let end = put(out, at, word);
+    put_decimal(out, end, n)
+}
+
+// Bytes as hex digits, - for none.
+pub fn hex_or_none(out: &mut [u8], at: usize, bytes: &[u8]) -> usize
+    ensures { λ r. ⌜ Put at (forms.hex-or-none (now (bytes .entry))) (now (out .entry)) (now (out .exit)) r ⌝ }
+{
+    if bytes.len() == 0 {
+        return put(out, at, b"-");
+    }
+    put_hex(out, at, bytes)
+}
 
 // How much a length lacks of a width.
 fn lacking(width: usize, length: usize) -> usize
