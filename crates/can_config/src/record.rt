@@ -27,7 +27,7 @@ pub struct Record {
 }
 
 // Whose the object is, by the record from position at on.
-pub fn record_owner(bytes: &[u8], at: usize) -> Owner
+fn record_owner(bytes: &[u8], at: usize) -> Owner
     requires { ⌜ at + can-format .record-size ≤ length (now bytes) ⌝ }
     ensures { λ r. ⌜ view-owner r ≡ owner-of (part at (can-format .record-size) (now (bytes .entry))) ⌝ }
 {
@@ -38,7 +38,7 @@ pub fn record_owner(bytes: &[u8], at: usize) -> Owner
 }
 
 // What its frames ask, by the same record.
-pub fn record_settings(bytes: &[u8], at: usize) -> Settings
+fn record_settings(bytes: &[u8], at: usize) -> Settings
     requires { ⌜ at + can-format .record-size ≤ length (now bytes) ⌝ }
     ensures { λ r. ⌜ view-settings r ≡ settings-of (part at (can-format .record-size) (now (bytes .entry))) ⌝ }
 {

@@ -11,8 +11,7 @@ ghost use Rattle.can_faults.specs.Fault.{first-broken, sending-rules, re
 use crate::fault::Rule;
 use can_config::header::HEADER_SIZE;
 use can_config::record::RECORD_SIZE;
-use can_config::record::record_owner;
-use can_config::record::record_settings;
+use can_config::record::read_record;
 use can_frame::identifier::EXTENDED_ONLY;
 use can_frame::identifier::is_extended;
 use can_frame::length::LONGEST_CLASSIC;
@@ -85,8 +84,9 @@ pub fn record_rule(bytes: &[u8], controller_count: usize, h: usize) -> Rule
     requires { ⌜ header-size + can-format .record-size * h + can-format .record-size ≤ length (now bytes) ⌝ }
     ensures { λ r. ⌜ r ≡ record-rule «controller_count» (object-record rules.chip can-format (now (bytes .entry)) h) ⌝ }
 {
-    let at = HEADER_SIZE + RECORD_SIZE * h;
-    let owner = record_owner(bytes, at);
-    let settings = record_settings(bytes, at);
-    rule_of(controller_count, owner, bytes[at + 1], settings)
+    let record = read_record(bytes, controller_count, h);
+    let owner = record.owner;
+    let settings = record.settings;
+    let kind = bytes[HEADER_SIZE + RECORD_SIZE * h + 1];
+    rule_of(controller_count, owner, kind, settings)
 }

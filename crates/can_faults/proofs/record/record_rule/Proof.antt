@@ -19,45 +19,41 @@ said : (count : ℕ) (r : List ℕ) {o : Owner} {kind : ℕ} {s : Settings} → 
     → first-broken (rules-of count o kind s) ≡ record-rule count r
 said count r owner kind settings = rw (owner, kind, settings)
 
-mul-at : tie.Need-mul-at
-mul-at c = search needs
+read-record-requires : tie.Need-read-record-requires
+read-record-requires c κs = search needs
 
-add-at : tie.Need-add-at
-add-at c = search needs
+mul-kind : tie.Need-mul-kind
+mul-kind c = search needs
 
-record-owner-requires : tie.Need-record-owner-requires
-record-owner-requires c κs = search needs
+add-kind : tie.Need-add-kind
+add-kind c = search needs
 
-record-settings-requires : tie.Need-record-settings-requires
-record-settings-requires c κs = search needs
+add-kind-2 : tie.Need-add-kind-2
+add-kind-2 c = search needs
 
-add-rule-of : tie.Need-add-rule-of
-add-rule-of c = search needs
-
-shared-slice-read-rule-of : tie.Need-shared-slice-read-rule-of
-shared-slice-read-rule-of c = search needs
+shared-slice-read-kind : tie.Need-shared-slice-read-kind
+shared-slice-read-kind c = search needs
 
 rule-of-requires : tie.Need-rule-of-requires
 rule-of-requires c κs = search needs
 
 returns : tie.Need-returns
 returns c =
-    let a = c .before .before .before .before .before .args in
+    let reading = c .before .before .before .before in
+    let a = reading .before .before .args in
     let size = can-format .record-size in
     let kind = sym (getD-part 1 (header-size + size * a .h) size (a .bytes .now) 0 (lit< tt)) in
-    c .rule-of .ensures
-    ∙ said (a .controller-count) (object-record chip can-format (a .bytes .now) (a .h)) (c .before .before .before .record-owner .ensures) kind
-    (c .before .before .record-settings .ensures)
+    let read = reading .read-record .ensures in
+    c .rule-of .ensures ∙ said (a .controller-count) (object-record chip can-format (a .bytes .now) (a .h)) (read .owner) kind (read .settings)
 
 pub record-rule-spec : {M : Type 1} → statement M
 record-rule-spec =
     tie.close
     (tie.spec
-    mul-at
-    add-at
-    record-owner-requires
-    record-settings-requires
-    add-rule-of
-    shared-slice-read-rule-of
+    read-record-requires
+    mul-kind
+    add-kind
+    add-kind-2
+    shared-slice-read-kind
     rule-of-requires
     returns)
