@@ -1,6 +1,7 @@
 // The bytes of a configuration that is said in words: a header of 8 bytes, then a record of 12 bytes for each object.
 ghost use mathlib.Core.Path.{_≡_};
 ghost use Rattle.rules.specs.Bytes.{splice};
+ghost use Rattle.rules.specs.Configuration.{objects-byte};
 ghost use Rattle.bench_draft.specs.Draft as drafts;
 use core_layout::bytes::put_bytes;
 
@@ -18,7 +19,7 @@ pub const ROOM: usize = HEADER + RECORD * 255;
 
 // How many objects there are.
 pub fn objects(draft: &[u8]) -> u8
-    ensures { λ r. ⌜ r ≡ drafts.objects-in (now (draft .entry)) ⌝ }
+    ensures { λ r. ⌜ r ≡ objects-byte (now (draft .entry)) ⌝ }
 {
     if OBJECTS_AT < draft.len() {
         draft[OBJECTS_AT]

@@ -4,10 +4,8 @@ use bench_lines::count::of_bytes;
 use bench_text::put::put;
 use bench_text::put::put_hex;
 use bench_words::split::between;
-
-const HEADER: usize = 8;
-
-const RECORD: usize = 12;
+use can_config::header::HEADER_SIZE;
+use can_config::record::RECORD_SIZE;
 
 // Some of the bytes, each as a word, so that they can be pasted.
 fn row(out: &mut [u8], at: usize, bytes: &[u8]) -> usize {
@@ -22,8 +20,12 @@ fn row(out: &mut [u8], at: usize, bytes: &[u8]) -> usize {
 // The records, one after the other.
 fn records(out: &mut [u8], at: usize, bytes: &[u8]) -> usize {
     let mut end = at;
-    for h in 0..bytes.len() / RECORD {
-        end = row(out, end, &bytes[RECORD * h..RECORD * h + RECORD]);
+    for h in 0..bytes.len() / RECORD_SIZE {
+        end = row(
+            out,
+            end,
+            &bytes[RECORD_SIZE * h..RECORD_SIZE * h + RECORD_SIZE],
+        );
     }
     end
 }
@@ -31,6 +33,6 @@ fn records(out: &mut [u8], at: usize, bytes: &[u8]) -> usize {
 // All bytes of the configuration.
 pub fn shown(out: &mut [u8], at: usize, draft: &[u8]) -> usize {
     let size = of_bytes(size(draft), draft);
-    let end = row(out, at, between(draft, 0, HEADER));
-    records(out, end, between(draft, HEADER, size))
+    let end = row(out, at, between(draft, 0, HEADER_SIZE));
+    records(out, end, between(draft, HEADER_SIZE, size))
 }

@@ -7,13 +7,14 @@ use crate::say::two;
 use bench_words::piece::piece;
 use bench_words::split::between;
 use can_config::bytes::byte_at;
+use can_config::header::CONTROLLERS_AT;
+use can_config::header::HEADER_SIZE;
+use can_config::header::OBJECTS_AT;
+use can_config::header::ZERO_AT;
+use can_config::record::RECORD_SIZE;
 use can_faults::fault::Rule;
 use can_faults::find::fault;
 use core_layout::bytes::number_4;
-
-const HEADER: usize = 8;
-
-const RECORD: usize = 12;
 
 // The place of a rule in the table below.
 fn place(rule: Rule) -> usize {
@@ -43,7 +44,7 @@ fn position(object: usize, k: usize) -> usize {
     if 255 < object {
         return k;
     }
-    std::num::wrapping_add_usize(HEADER + RECORD * object, k)
+    std::num::wrapping_add_usize(HEADER_SIZE + RECORD_SIZE * object, k)
 }
 
 // A byte of an object's record; 0 where there is none.
@@ -63,13 +64,16 @@ fn number(bytes: &[u8], object: usize, k: usize) -> u64 {
 
 // The numbers of a rule of the header or of the whole, in the order of its text.
 fn outline_numbers(bytes: &[u8], rule: Rule) -> [u64; NUMBERS] {
-    let objects = byte_at(bytes, 6) as u64;
+    let objects = byte_at(bytes, OBJECTS_AT);
     match rule {
         Rule::Version => two(byte_at(bytes, 3) as u64, byte_at(bytes, 4) as u64),
-        Rule::Controllers => one(byte_at(bytes, 5) as u64),
-        Rule::Objects => one(objects),
-        Rule::ZeroByte => one(byte_at(bytes, 7) as u64),
-        _ => three(bytes.len() as u64, 8 + 12 * objects, objects),
+        Rule::Controllers => one(byte_at(bytes, CONTROLLERS_AT) as u64),
+        Rule::Objects => one(objects as u64),
+        Rule::ZeroByte => one(byte_at(bytes, ZERO_AT) as u64),
+        _ => {
+            let expected = HEADER_SIZE + RECORD_SIZE * objects as usize;
+            three(bytes.len() as u64, expected as u64, objects as u64)
+        }
     }
 }
 
@@ -77,7 +81,11 @@ fn outline_numbers(bytes: &[u8], rule: Rule) -> [u64; NUMBERS] {
 fn record_numbers(bytes: &[u8], object: usize, rule: Rule) -> [u64; NUMBERS] {
     let h = object as u64;
     match rule {
-        Rule::Controller => three(h, byte(bytes, object, 0), byte_at(bytes, 5) as u64),
+        Rule::Controller => three(
+            h,
+            byte(bytes, object, 0),
+            byte_at(bytes, CONTROLLERS_AT) as u64,
+        ),
         Rule::Kind => two(h, byte(bytes, object, 1)),
         Rule::Payload => two(h, byte(bytes, object, 2)),
         Rule::ReceivingPadding => two(h, byte(bytes, object, 3)),

@@ -5,23 +5,24 @@ use mathlib.Core.Bool.{true, false}
 use mathlib.Core.List.{List, [], _∷_}
 use borrow.Author.Tests.{lt-ltb, le-ltb}
 use Rattle.rules.specs.Bytes.{splice}
-use Rattle.bench_draft.specs.Draft.{objects-in, size-of, most-objects, Added}
+use Rattle.rules.specs.Configuration.{objects-byte}
+use Rattle.bench_draft.specs.Draft.{size-of, most-objects, Added}
 use borrow.Author.Needs.{needs}
 use Rattle.bench_draft.proofs.draft.add.Statement.{statement}
 use Rattle.bench_draft.proofs.draft.add.Tie as tie
 
-module _ (bytes draft : List ℕ) {count : ℕ} (counted : count ≡ objects-in draft) where
+module _ (bytes draft : List ℕ) {count : ℕ} (counted : count ≡ objects-byte draft) where
   -- there are too many objects
   full : most-objects ≤ count → Added bytes draft draft false
   full h =
-      let no = le-ltb (objects-in draft) most-objects (rw counted at h) in
+      let no = le-ltb (objects-byte draft) most-objects (rw counted at h) in
       record { room = sym no; bytes-are = rw no }
 
   -- there is room: the record is put behind the last one, then the count
   one-more : count < most-objects → {size : ℕ} {put counted₁ : List ℕ} → size ≡ size-of draft → put ≡ splice size bytes draft → counted₁ ≡ splice 6 ((count + 1) ∷ []) put
       → Added bytes draft counted₁ true
   one-more h is e f =
-      let yes = lt-ltb (objects-in draft) most-objects (rw counted at h) in
+      let yes = lt-ltb (objects-byte draft) most-objects (rw counted at h) in
       record { room = sym yes; bytes-are = rw yes (f ∙ rw (e, is, counted)) }
 
 objects-requires : tie.Need-objects-requires
