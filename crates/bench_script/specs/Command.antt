@@ -9,11 +9,12 @@ use Rattle.rules.specs.Bytes.{same-bytes, splice}
 use Rattle.bench_words.specs.Text.{ascii}
 use Rattle.bench_words.specs.Split.{word, is-missing, first, after}
 use Rattle.bench_words.specs.Reading.{number-of, limited-to, mode-of, identifier-of, bytes-of, longest-line, largest-handle, largest-sheet, largest-memory, largest-byte}
-use Rattle.bench_script.specs.Name.{name-of, argument-count, is-open}
+use Rattle.bench_script.specs.Name.{name-of, arguments-of}
 use Rattle.bench_script.specs.Object.{object-of}
 use Rattle.bench_script.specs.With.{with-value}
 use Rattle.bench_script.specs.declared.name.Name.{Name}
 use Rattle.bench_script.specs.declared.name.Name.the-variants as names
+use Rattle.bench_words.specs.declared.reading.Trouble.{Trouble}
 use Rattle.bench_words.specs.declared.reading.Trouble.the-variants.{LineTooLong, UnknownCommand, WordMissing, WordTooMany, UnknownPoll, HandleTooLarge, SheetTooLong, MemoryTooLong, ByteTooLarge}
 use Rattle.bench_words.specs.declared.reading.Reading.{Reading}
 use Rattle.bench_words.specs.declared.reading.Reading.the-variants as readings
@@ -49,16 +50,24 @@ set-mode-of c text = with-value (mode-of (first text)) (λ m. Set c m)
 abbrev pub set-of : List ℕ → Command
 set-of text = with-value (number-of (first text)) (λ c. set-mode-of c (after text))
 
--- get C, sent OBJ, busoff C, data OBJ, show OBJ
+-- the command of a name that takes one number
 abbrev pub of-number : Numbered → ℕ → Command
 of-number numbered.Get c = Get c
 of-number numbered.Sent h = Sent h
 of-number numbered.BusOff c = BusOff c
 of-number numbered.Data h = Data h
 of-number numbered.Show h = Show h
+of-number numbered.Sheet n = Sheet n
+of-number numbered.Memory n = Memory n
+of-number numbered.Controllers n = Controllers n
 
+-- get C, sent OBJ, busoff C, data OBJ, show OBJ
 abbrev pub with-number : Numbered → List ℕ → Command
 with-number what text = with-value (number-of (first text)) (of-number what)
+
+-- sheet N, memory N, controllers N: the number has a limit, and one above it has trouble of its own
+abbrev pub with-limited : Numbered → ℕ → Trouble → List ℕ → Command
+with-limited what limit trouble text = with-value (limited-to limit trouble (number-of (first text))) (of-number what)
 
 -- write OBJ HANDLE ID BYTES
 abbrev pub write-frame-of : ℕ → ℕ → ℕ → List ℕ → Said
@@ -91,17 +100,6 @@ poll-of w =
     (cond (same-bytes w (ascii "mode")) PollMode
     (cond (same-bytes w (ascii "busoff")) PollBusOff (Unreadable UnknownPoll))))
 
--- sheet N, memory N
-abbrev pub sheet-of : List ℕ → Command
-sheet-of text = with-value (limited-to largest-sheet SheetTooLong (number-of (first text))) (λ n. Sheet n)
-
-abbrev pub memory-of : List ℕ → Command
-memory-of text = with-value (limited-to largest-memory MemoryTooLong (number-of (first text))) (λ n. Memory n)
-
--- controllers N
-abbrev pub controllers-of : List ℕ → Command
-controllers-of text = with-value (limited-to largest-byte ByteTooLarge (number-of (first text))) (λ n. Controllers n)
-
 -- the words after a name
 unfoldable pub named : Name → List ℕ → Said
 named names.Init text = init-of text
@@ -114,22 +112,22 @@ named names.Sent text = silent (with-number numbered.Sent text)
 named names.BusOff text = silent (with-number numbered.BusOff text)
 named names.Arrived text = arrived-of text
 named names.Data text = silent (with-number numbered.Data text)
-named names.Sheet text = silent (sheet-of text)
-named names.Memory text = silent (memory-of text)
+named names.Sheet text = silent (with-limited numbered.Sheet largest-sheet SheetTooLong text)
+named names.Memory text = silent (with-limited numbered.Memory largest-memory MemoryTooLong text)
 named names.Show text = silent (with-number numbered.Show text)
 named names.State text = silent State
-named names.Controllers text = silent (controllers-of text)
+named names.Controllers text = silent (with-limited numbered.Controllers largest-byte ByteTooLarge text)
 named names.Object text = silent (object-of text)
 named names.Unknown text = silent (Unreadable UnknownCommand)
 
 -- a line may have a word too few or too many
-abbrev pub too-many : Name → List ℕ → ℕ → Bool
-too-many name line n = not (is-open name) && not (is-missing n line)
+abbrev pub too-many : Bool → List ℕ → ℕ → Bool
+too-many more line n = not more && not (is-missing n line)
 
 unfoldable pub counted : Name → List ℕ → Said
 counted name line =
-    cond (is-missing (argument-count name) line) (silent (Unreadable WordMissing))
-    (cond (too-many name line (argument-count name + 1)) (silent (Unreadable WordTooMany)) (named name (after line)))
+    cond (is-missing (arguments-of name .n) line) (silent (Unreadable WordMissing))
+    (cond (too-many (arguments-of name .more) line (arguments-of name .n + 1)) (silent (Unreadable WordTooMany)) (named name (after line)))
 
 -- what a line says
 unfoldable pub command-of : List ℕ → Said

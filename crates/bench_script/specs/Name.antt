@@ -1,9 +1,10 @@
 -- The names of commands, and how many words follow each.
 use Prim.Native.Nat.{ℕ}
-use mathlib.Core.Bool.{Bool, true, false, cond}
+use mathlib.Core.Bool.{true, false, cond}
 use mathlib.Core.List.{List, [], _∷_}
 use Rattle.rules.specs.Bytes.{same-bytes}
 use Rattle.bench_words.specs.Text.{ascii}
+use Rattle.bench_script.specs.declared.name.Arguments.{Arguments}
 use Rattle.bench_script.specs.declared.name.Name.{Name}
 use Rattle.bench_script.specs.declared.name.Name.the-variants.{Init, DeInit, Set, Get, Write, Poll, Sent, BusOff, Arrived, Data, Sheet, Memory, Show, State, Controllers, Object, Unknown}
 
@@ -37,47 +38,31 @@ name-among (n ∷ ns) w = cond (same-bytes w (n .0)) (n .1) (name-among ns w)
 abbrev pub name-of : List ℕ → Name
 name-of w = name-among names w
 
--- how many words follow at least
-abbrev pub argument-count : Name → ℕ
-argument-count Init = 0
-argument-count DeInit = 0
-argument-count Set = 2
-argument-count Get = 1
-argument-count Write = 4
-argument-count Poll = 1
-argument-count Sent = 1
-argument-count BusOff = 1
-argument-count Arrived = 3
-argument-count Data = 1
-argument-count Sheet = 1
-argument-count Memory = 1
-argument-count Show = 1
-argument-count State = 0
-argument-count Controllers = 1
-argument-count Object = 1
-argument-count Unknown = 0
+-- just so many words follow
+abbrev exactly : ℕ → Arguments
+exactly n = record { n = n; more = false }
 
--- no name takes more
-abbrev pub most-arguments : ℕ
-most-arguments = 4
+-- so many words follow, or more
+abbrev at-least : ℕ → Arguments
+at-least n = record { n = n; more = true }
 
--- more may follow: bytes may stand in several words, how many words an object takes is up to its kind, and of an unknown command nothing
--- is known
-abbrev pub is-open : Name → Bool
-is-open Init = true
-is-open DeInit = false
-is-open Set = false
-is-open Get = false
-is-open Write = true
-is-open Poll = false
-is-open Sent = false
-is-open BusOff = false
-is-open Arrived = true
-is-open Data = false
-is-open Sheet = false
-is-open Memory = false
-is-open Show = false
-is-open State = false
-is-open Controllers = false
-is-open Object = true
-is-open Unknown = true
+-- how many words follow a name: more may where bytes stand in several words, where an object's kind says how many it takes, and behind an
+-- unknown command
+abbrev pub arguments-of : Name → Arguments
+arguments-of Init = at-least 0
+arguments-of DeInit = exactly 0
+arguments-of Set = exactly 2
+arguments-of Get = exactly 1
+arguments-of Write = at-least 4
+arguments-of Poll = exactly 1
+arguments-of Sent = exactly 1
+arguments-of BusOff = exactly 1
+arguments-of Arrived = at-least 3
+arguments-of Data = exactly 1
+arguments-of Sheet = exactly 1
+arguments-of Memory = exactly 1
+arguments-of Show = exactly 1
+arguments-of State = exactly 0
+arguments-of Controllers = exactly 1
+arguments-of Object = at-least 1
+arguments-of Unknown = at-least 0

@@ -10,6 +10,8 @@ use Rattle.bench_script.specs.With.{with-value}
 use Rattle.bench_words.specs.declared.reading.Trouble.the-variants.{WordMissing, WordTooMany, ByteTooLarge, UnexpectedWord, UnknownKind}
 use Rattle.bench_words.specs.declared.reading.Reading.{Reading}
 use Rattle.bench_words.specs.declared.reading.Reading.the-variants as readings
+use Rattle.bench_script.specs.declared.object.Kind.{Kind}
+use Rattle.bench_script.specs.declared.object.Kind.the-variants.{Sending, Receiving}
 use Rattle.bench_script.specs.declared.object.Value.{Value}
 use Rattle.bench_script.specs.declared.object.Value.the-variants.{Number, Byte, Identifier}
 use Rattle.bench_script.specs.declared.command.Command.{Command}
@@ -45,26 +47,26 @@ code-word = ascii "code"
 abbrev pub mask-word : List ℕ
 mask-word = ascii "mask"
 
--- the first trouble from left to right
-abbrev pub send-made : Reading → Reading → Reading → Command
-send-made controller payload padding =
-    with-value controller (λ c. with-value payload (λ p. with-value padding (λ x. Send c p x)))
+-- padding XX
+abbrev pub send-of : ℕ → ℕ → List ℕ → Command
+send-of c p text = with-value (field-of padding-word Byte text) (λ x. Send c p x)
 
-abbrev pub receive-made : Reading → Reading → Reading → Reading → Command
-receive-made controller payload code mask =
-    with-value controller (λ c. with-value payload (λ p. with-value code (λ i. with-value mask (λ m. Receive c p i m))))
+-- code ID mask ID
+abbrev pub receive-of : ℕ → ℕ → List ℕ → Command
+receive-of c p text =
+    with-value (field-of code-word Identifier text) (λ i. with-value (field-of mask-word Identifier (behind-field text)) (λ m. Receive c p i m))
 
--- controller C payload P padding XX
-abbrev pub send-of : List ℕ → Command
-send-of text =
-    send-made (field-of controller-word Number text) (field-of payload-word Number (behind-field text))
-    (field-of padding-word Byte (behind-field (behind-field text)))
+abbrev pub of-kind : Kind → ℕ → ℕ → List ℕ → Command
+of-kind Sending c p text = send-of c p text
+of-kind Receiving c p text = receive-of c p text
 
--- controller C payload P code ID mask ID
-abbrev pub receive-of : List ℕ → Command
-receive-of text =
-    receive-made (field-of controller-word Number text) (field-of payload-word Number (behind-field text))
-    (field-of code-word Identifier (behind-field (behind-field text))) (field-of mask-word Identifier (behind-field (behind-field (behind-field text))))
+-- payload P, and what an object of its kind takes
+abbrev pub on-controller : Kind → ℕ → List ℕ → Command
+on-controller kind c text = with-value (field-of payload-word Number text) (λ p. of-kind kind c p (behind-field text))
+
+-- controller C, and the rest
+abbrev pub fields-of : Kind → List ℕ → Command
+fields-of kind text = with-value (field-of controller-word Number text) (λ c. on-controller kind c (behind-field text))
 
 -- just so many words
 abbrev pub sized : ℕ → List ℕ → Command → Command
@@ -74,5 +76,5 @@ sized count text command =
 -- send .. or receive ..
 unfoldable pub object-of : List ℕ → Command
 object-of text =
-    cond (same-bytes (first text) (ascii "send")) (sized 6 (after text) (send-of (after text)))
-    (cond (same-bytes (first text) (ascii "receive")) (sized 8 (after text) (receive-of (after text))) (Unreadable UnknownKind))
+    cond (same-bytes (first text) (ascii "send")) (sized 6 (after text) (fields-of Sending (after text)))
+    (cond (same-bytes (first text) (ascii "receive")) (sized 8 (after text) (fields-of Receiving (after text))) (Unreadable UnknownKind))

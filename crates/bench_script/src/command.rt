@@ -1,9 +1,9 @@
 // A line as a command.
 ghost use Rattle.bench_script.specs.Command as commands;
+ghost use Rattle.bench_script.specs.With.{with-value};
 ghost use mathlib.Core.Path.{_≡_};
 use crate::name::Name;
-use crate::name::arguments;
-use crate::name::is_open;
+use crate::name::arguments_of;
 use crate::name::name_of;
 use crate::object::object;
 use bench_words::bytes::LONGEST_LINE;
@@ -96,6 +96,9 @@ pub enum Numbered {
     BusOff,
     Data,
     Show,
+    Sheet,
+    Memory,
+    Controllers,
 }
 
 // The largest handle, sheet and memory that a line may name.
@@ -146,16 +149,22 @@ fn set_to(text: &[u8], controller: u32) -> Command
     }
 }
 
-// The command that a number makes.
-fn of_number(what: Numbered, n: u32) -> Command
-    ensures { λ r. ⌜ r ≡ commands.of-number what n ⌝ }
+// The command that a number makes, or the trouble with its word.
+fn of_number(what: Numbered, reading: Reading) -> Command
+    ensures { λ r. ⌜ r ≡ with-value reading (commands.of-number what) ⌝ }
 {
-    match what {
-        Numbered::Get => Command::Get { controller: n },
-        Numbered::Sent => Command::Sent { object: n },
-        Numbered::BusOff => Command::BusOff { controller: n },
-        Numbered::Data => Command::Data { object: n },
-        Numbered::Show => Command::Show { object: n },
+    match reading {
+        Reading::Unreadable(t) => Command::Unreadable(t),
+        Reading::Value(n) => match what {
+            Numbered::Get => Command::Get { controller: n },
+            Numbered::Sent => Command::Sent { object: n },
+            Numbered::BusOff => Command::BusOff { controller: n },
+            Numbered::Data => Command::Data { object: n },
+            Numbered::Show => Command::Show { object: n },
+            Numbered::Sheet => Command::Sheet { words: n },
+            Numbered::Memory => Command::Memory { bytes: n },
+            Numbered::Controllers => Command::Controllers { count: n },
+        },
     }
 }
 
@@ -163,33 +172,14 @@ fn of_number(what: Numbered, n: u32) -> Command
 fn with_number(text: &[u8], what: Numbered) -> Command
     ensures { λ r. ⌜ r ≡ commands.with-number what (now (text .entry)) ⌝ }
 {
-    let reading = number(first(text));
-    match reading {
-        Reading::Unreadable(t) => Command::Unreadable(t),
-        Reading::Value(n) => of_number(what, n),
-    }
+    of_number(what, number(first(text)))
 }
 
-// sheet N
-fn sheet(text: &[u8]) -> Command
-    ensures { λ r. ⌜ r ≡ commands.sheet-of (now (text .entry)) ⌝ }
+// sheet N, memory N, controllers N: each has a limit, and trouble of its own with a number above it.
+fn with_limited(text: &[u8], what: Numbered, limit: u32, trouble: Trouble) -> Command
+    ensures { λ r. ⌜ r ≡ commands.with-limited what limit trouble (now (text .entry)) ⌝ }
 {
-    let reading = limited(first(text), LARGEST_SHEET as u32, Trouble::SheetTooLong);
-    match reading {
-        Reading::Unreadable(t) => Command::Unreadable(t),
-        Reading::Value(n) => Command::Sheet { words: n },
-    }
-}
-
-// memory N
-fn memory(text: &[u8]) -> Command
-    ensures { λ r. ⌜ r ≡ commands.memory-of (now (text .entry)) ⌝ }
-{
-    let reading = limited(first(text), LARGEST_MEMORY as u32, Trouble::MemoryTooLong);
-    match reading {
-        Reading::Unreadable(t) => Command::Unreadable(t),
-        Reading::Value(n) => Command::Memory { bytes: n },
-    }
+    of_number(what, limited(first(text), limit, trouble))
 }
 
 // poll write | read | mode | busoff
@@ -303,17 +293,6 @@ fn arrived_frame(
     }
 }
 
-// controllers N
-fn controllers(text: &[u8]) -> Command
-    ensures { λ r. ⌜ r ≡ commands.controllers-of (now (text .entry)) ⌝ }
-{
-    let reading = limited(first(text), LARGEST_BYTE, Trouble::ByteTooLarge);
-    match reading {
-        Reading::Unreadable(t) => Command::Unreadable(t),
-        Reading::Value(n) => Command::Controllers { count: n },
-    }
-}
-
 // The words after a name.
 fn named(name: Name, text: &[u8], out: &mut [u8; MOST_BYTES]) -> Command
     ensures { λ r. ⌜ commands.CommandRead (commands.named name (now (text .entry))) (now (out .entry)) (now (out .exit)) r ⌝ }
@@ -329,21 +308,36 @@ fn named(name: Name, text: &[u8], out: &mut [u8; MOST_BYTES]) -> Command
         Name::BusOff => with_number(text, Numbered::BusOff),
         Name::Arrived => arrived(text, out),
         Name::Data => with_number(text, Numbered::Data),
-        Name::Sheet => sheet(text),
-        Name::Memory => memory(text),
+        Name::Sheet => with_limited(
+            text,
+            Numbered::Sheet,
+            LARGEST_SHEET as u32,
+            Trouble::SheetTooLong,
+        ),
+        Name::Memory => with_limited(
+            text,
+            Numbered::Memory,
+            LARGEST_MEMORY as u32,
+            Trouble::MemoryTooLong,
+        ),
         Name::Show => with_number(text, Numbered::Show),
         Name::State => Command::State,
-        Name::Controllers => controllers(text),
+        Name::Controllers => with_limited(
+            text,
+            Numbered::Controllers,
+            LARGEST_BYTE,
+            Trouble::ByteTooLarge,
+        ),
         Name::Object => object(text),
         Name::Unknown => Command::Unreadable(Trouble::UnknownCommand),
     }
 }
 
-// Whether there is a word n, where the name takes no more.
-fn too_many(name: Name, line: &[u8], n: usize) -> bool
-    ensures { λ r. ⌜ r ≡ commands.too-many name (now (line .entry)) n ⌝ }
+// Whether there is a word n, where no more words may follow.
+fn too_many(more: bool, line: &[u8], n: usize) -> bool
+    ensures { λ r. ⌜ r ≡ commands.too-many more (now (line .entry)) n ⌝ }
 {
-    if is_open(name) {
+    if more {
         return false;
     }
     word(line, n).len() != 0
@@ -353,11 +347,12 @@ fn too_many(name: Name, line: &[u8], n: usize) -> bool
 fn counted(name: Name, line: &[u8], out: &mut [u8; MOST_BYTES]) -> Command
     ensures { λ r. ⌜ commands.CommandRead (commands.counted name (now (line .entry))) (now (out .entry)) (now (out .exit)) r ⌝ }
 {
-    let count = arguments(name);
+    let arguments = arguments_of(name);
+    let count = arguments.n as usize;
     if word(line, count).len() == 0 {
         return Command::Unreadable(Trouble::WordMissing);
     }
-    if too_many(name, line, count + 1) {
+    if too_many(arguments.more, line, count + 1) {
         return Command::Unreadable(Trouble::WordTooMany);
     }
     named(name, after(line), out)

@@ -2,8 +2,7 @@
 ghost use mathlib.Core.Path.{_≡_};
 ghost use mathlib.Core.Bool.{cond};
 ghost use Rattle.rules.specs.Bytes.{same-bytes};
-ghost use Prim.Native.Nat.{_≤_};
-ghost use Rattle.bench_script.specs.Name.{name-of, argument-count, most-arguments, is-open};
+ghost use Rattle.bench_script.specs.Name.{name-of, arguments-of};
 use bench_words::split::same;
 
 pub enum Name {
@@ -55,53 +54,33 @@ pub fn name_of(word: &[u8]) -> Name
     named_or(word, b"init", Name::Init, name)
 }
 
-// How many words follow a name at least.
-pub fn arguments(name: Name) -> usize
-    ensures { λ r. ⌜ (r ≡ argument-count name) × (r ≤ most-arguments) ⌝ }
-{
-    match name {
-        Name::Init => 0,
-        Name::DeInit => 0,
-        Name::Set => 2,
-        Name::Get => 1,
-        Name::Write => 4,
-        Name::Poll => 1,
-        Name::Sent => 1,
-        Name::BusOff => 1,
-        Name::Arrived => 3,
-        Name::Data => 1,
-        Name::Sheet => 1,
-        Name::Memory => 1,
-        Name::Show => 1,
-        Name::State => 0,
-        Name::Controllers => 1,
-        Name::Object => 1,
-        Name::Unknown => 0,
-    }
+// How many words follow a name: n, and whether more may.
+pub struct Arguments {
+    pub n: u8,
+    pub more: bool,
 }
 
-// Whether more words may follow: bytes may stand in several words, how many an object takes is up to its kind, and of an unknown
-// command nothing is known.
-pub fn is_open(name: Name) -> bool
-    ensures { λ r. ⌜ r ≡ is-open name ⌝ }
+// More may follow where bytes stand in several words, where an object's kind says how many it takes, and behind an unknown command.
+pub fn arguments_of(name: Name) -> Arguments
+    ensures { λ r. ⌜ r ≡ arguments-of name ⌝ }
 {
     match name {
-        Name::Init => true,
-        Name::DeInit => false,
-        Name::Set => false,
-        Name::Get => false,
-        Name::Write => true,
-        Name::Poll => false,
-        Name::Sent => false,
-        Name::BusOff => false,
-        Name::Arrived => true,
-        Name::Data => false,
-        Name::Sheet => false,
-        Name::Memory => false,
-        Name::Show => false,
-        Name::State => false,
-        Name::Controllers => false,
-        Name::Object => true,
-        Name::Unknown => true,
+        Name::Init => Arguments { n: 0, more: true },
+        Name::DeInit => Arguments { n: 0, more: false },
+        Name::Set => Arguments { n: 2, more: false },
+        Name::Get => Arguments { n: 1, more: false },
+        Name::Write => Arguments { n: 4, more: true },
+        Name::Poll => Arguments { n: 1, more: false },
+        Name::Sent => Arguments { n: 1, more: false },
+        Name::BusOff => Arguments { n: 1, more: false },
+        Name::Arrived => Arguments { n: 3, more: true },
+        Name::Data => Arguments { n: 1, more: false },
+        Name::Sheet => Arguments { n: 1, more: false },
+        Name::Memory => Arguments { n: 1, more: false },
+        Name::Show => Arguments { n: 1, more: false },
+        Name::State => Arguments { n: 0, more: false },
+        Name::Controllers => Arguments { n: 1, more: false },
+        Name::Object => Arguments { n: 1, more: true },
+        Name::Unknown => Arguments { n: 0, more: true },
     }
 }

@@ -1,6 +1,7 @@
 // An object of a configuration in words: what stands behind `object`.
 ghost use Rattle.bench_script.specs.Object as objects;
 ghost use mathlib.Core.Path.{_≡_};
+ghost use Prim.Native.Nat.{_<_};
 use crate::command::Command;
 use crate::command::LARGEST_BYTE;
 use bench_words::bytes::one_byte;
@@ -18,6 +19,12 @@ pub enum Value {
     Number,
     Byte,
     Identifier,
+}
+
+// An object sends or receives.
+pub enum Kind {
+    Sending,
+    Receiving,
 }
 
 fn read_value(word: &[u8], kind: Value) -> Reading
@@ -47,110 +54,97 @@ fn behind(text: &[u8]) -> &[u8]
     after(after(text))
 }
 
-fn send_made(controller: Reading, payload: Reading, padding: Reading) -> Command
-    ensures { λ r. ⌜ r ≡ objects.send-made controller payload padding ⌝ }
+// padding XX
+fn send(text: &[u8], controller: u32, payload: u32) -> Command
+    ensures { λ r. ⌜ r ≡ objects.send-of controller payload (now (text .entry)) ⌝ }
 {
-    match controller {
+    let padding = field(text, b"padding", Value::Byte);
+    match padding {
         Reading::Unreadable(t) => Command::Unreadable(t),
-        Reading::Value(c) => match payload {
+        Reading::Value(x) => Command::Send {
+            controller: controller,
+            payload: payload,
+            padding: x,
+        },
+    }
+}
+
+// code ID mask ID
+fn receive(text: &[u8], controller: u32, payload: u32) -> Command
+    ensures { λ r. ⌜ r ≡ objects.receive-of controller payload (now (text .entry)) ⌝ }
+{
+    let code = field(text, b"code", Value::Identifier);
+    let mask = field(behind(text), b"mask", Value::Identifier);
+    match code {
+        Reading::Unreadable(t) => Command::Unreadable(t),
+        Reading::Value(i) => match mask {
             Reading::Unreadable(t) => Command::Unreadable(t),
-            Reading::Value(p) => match padding {
-                Reading::Unreadable(t) => Command::Unreadable(t),
-                Reading::Value(x) => Command::Send {
-                    controller: c,
-                    payload: p,
-                    padding: x,
-                },
+            Reading::Value(m) => Command::Receive {
+                controller: controller,
+                payload: payload,
+                code: i,
+                mask: m,
             },
         },
     }
 }
 
-fn receive_made(controller: Reading, payload: Reading, code: Reading, mask: Reading) -> Command
-    ensures { λ r. ⌜ r ≡ objects.receive-made controller payload code mask ⌝ }
+// What an object of its kind takes.
+fn of_kind(text: &[u8], kind: Kind, controller: u32, payload: u32) -> Command
+    ensures { λ r. ⌜ r ≡ objects.of-kind kind controller payload (now (text .entry)) ⌝ }
 {
+    match kind {
+        Kind::Sending => send(text, controller, payload),
+        Kind::Receiving => receive(text, controller, payload),
+    }
+}
+
+// payload P, and the rest
+fn on_controller(text: &[u8], kind: Kind, controller: u32) -> Command
+    ensures { λ r. ⌜ r ≡ objects.on-controller kind controller (now (text .entry)) ⌝ }
+{
+    let payload = field(text, b"payload", Value::Number);
+    match payload {
+        Reading::Unreadable(t) => Command::Unreadable(t),
+        Reading::Value(p) => of_kind(behind(text), kind, controller, p),
+    }
+}
+
+// controller C, and the rest
+fn fields(text: &[u8], kind: Kind) -> Command
+    ensures { λ r. ⌜ r ≡ objects.fields-of kind (now (text .entry)) ⌝ }
+{
+    let controller = field(text, b"controller", Value::Number);
     match controller {
         Reading::Unreadable(t) => Command::Unreadable(t),
-        Reading::Value(c) => match payload {
-            Reading::Unreadable(t) => Command::Unreadable(t),
-            Reading::Value(p) => match code {
-                Reading::Unreadable(t) => Command::Unreadable(t),
-                Reading::Value(i) => match mask {
-                    Reading::Unreadable(t) => Command::Unreadable(t),
-                    Reading::Value(m) => Command::Receive {
-                        controller: c,
-                        payload: p,
-                        code: i,
-                        mask: m,
-                    },
-                },
-            },
-        },
+        Reading::Value(c) => on_controller(behind(text), kind, c),
     }
 }
 
-// controller C payload P padding XX
-fn send(text: &[u8]) -> Command
-    ensures { λ r. ⌜ r ≡ objects.send-of (now (text .entry)) ⌝ }
+// An object with just so many words.
+fn sized(text: &[u8], count: usize, kind: Kind) -> Command
+    requires { ⌜ 0 < count ⌝ }
+    ensures { λ r. ⌜ r ≡ objects.sized count (now (text .entry)) (objects.fields-of kind (now (text .entry))) ⌝ }
 {
-    let second = behind(text);
-    let third = behind(second);
-    let controller = field(text, b"controller", Value::Number);
-    let payload = field(second, b"payload", Value::Number);
-    let padding = field(third, b"padding", Value::Byte);
-    send_made(controller, payload, padding)
-}
-
-// controller C payload P code ID mask ID
-fn receive(text: &[u8]) -> Command
-    ensures { λ r. ⌜ r ≡ objects.receive-of (now (text .entry)) ⌝ }
-{
-    let second = behind(text);
-    let third = behind(second);
-    let fourth = behind(third);
-    let controller = field(text, b"controller", Value::Number);
-    let payload = field(second, b"payload", Value::Number);
-    let code = field(third, b"code", Value::Identifier);
-    let mask = field(fourth, b"mask", Value::Identifier);
-    receive_made(controller, payload, code, mask)
-}
-
-// Six words, for an object that sends.
-fn sized_send(text: &[u8]) -> Command
-    ensures { λ r. ⌜ r ≡ objects.sized 6 (now (text .entry)) (objects.send-of (now (text .entry))) ⌝ }
-{
-    if word(text, 5).len() == 0 {
+    if word(text, count - 1).len() == 0 {
         return Command::Unreadable(Trouble::WordMissing);
     }
-    if word(text, 6).len() != 0 {
+    if word(text, count).len() != 0 {
         return Command::Unreadable(Trouble::WordTooMany);
     }
-    send(text)
-}
-
-// Eight words, for an object that receives.
-fn sized_receive(text: &[u8]) -> Command
-    ensures { λ r. ⌜ r ≡ objects.sized 8 (now (text .entry)) (objects.receive-of (now (text .entry))) ⌝ }
-{
-    if word(text, 7).len() == 0 {
-        return Command::Unreadable(Trouble::WordMissing);
-    }
-    if word(text, 8).len() != 0 {
-        return Command::Unreadable(Trouble::WordTooMany);
-    }
-    receive(text)
+    fields(text, kind)
 }
 
 // send .. or receive ..
 pub fn object(text: &[u8]) -> Command
     ensures { λ r. ⌜ r ≡ objects.object-of (now (text .entry)) ⌝ }
 {
-    let kind = first(text);
-    if same(kind, b"send") {
-        return sized_send(after(text));
+    let word = first(text);
+    if same(word, b"send") {
+        return sized(after(text), 6, Kind::Sending);
     }
-    if same(kind, b"receive") {
-        return sized_receive(after(text));
+    if same(word, b"receive") {
+        return sized(after(text), 8, Kind::Receiving);
     }
     Command::Unreadable(Trouble::UnknownKind)
 }

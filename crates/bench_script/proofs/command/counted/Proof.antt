@@ -7,15 +7,18 @@ use borrow.Author.Needs.{needs}
 use Rattle.bench_script.proofs.command.counted.Statement.{statement}
 use Rattle.bench_script.proofs.command.counted.Tie as tie
 
-arguments-requires : tie.Need-arguments-requires
-arguments-requires c κs = search needs
+arguments-of-requires : tie.Need-arguments-of-requires
+arguments-of-requires c κs = search needs
+
+cast-count : tie.Need-cast-count
+cast-count c = search needs
 
 word-requires : tie.Need-word-requires
 word-requires c κs = search needs
 
 returns : tie.Need-returns
 unfolding counted
-returns c = rw (← c .before .before .arguments .ensures .0, ← c .before .word .ensures, eq-eqb _ _ (c .if1 .taken)) (quiet refl)
+returns c = rw (← c .before .before .before .arguments-of .ensures, ← c .before .word .ensures, eq-eqb _ _ (c .if1 .taken)) (quiet refl)
 
 add-too-many : tie.Need-add-too-many
 add-too-many c = search needs
@@ -25,7 +28,7 @@ too-many-requires c κs = search needs
 
 returns-2 : tie.Need-returns-2
 unfolding counted
-returns-2 c = rw (← c .before .before .before .before .arguments .ensures .0, ← c .before .before .before .word .ensures, ne-eqb _ _ (c .before .before .if1 .left), ← c .before .too-many .ensures, c .if2 .taken) (quiet refl)
+returns-2 c = rw (← c .before .before .before .before .before .arguments-of .ensures, ← c .before .before .before .word .ensures, ne-eqb _ _ (c .before .before .if1 .left), ← c .before .too-many .ensures, c .if2 .taken) (quiet refl)
 
 after-requires : tie.Need-after-requires
 after-requires c κs = search needs
@@ -35,13 +38,14 @@ named-requires c κs = search needs
 
 returns-3 : tie.Need-returns-3
 unfolding counted
-returns-3 c = rw (← c .before .before .before .before .before .before .before .arguments .ensures .0, ← c .before .before .before .before .before .before .word .ensures, ne-eqb _ _ (c .before .before .before .before .before .if1 .left), ← c .before .before .before .before .too-many .ensures, c .before .before .before .if2 .left, ← c .before .before .after .ensures) (c .named .ensures)
+returns-3 c = rw (← c .before .before .before .before .before .before .before .before .arguments-of .ensures, ← c .before .before .before .before .before .before .word .ensures, ne-eqb _ _ (c .before .before .before .before .before .if1 .left), ← c .before .before .before .before .too-many .ensures, c .before .before .before .if2 .left, ← c .before .before .after .ensures) (c .named .ensures)
 
 pub counted-spec : {M : Type 1} → statement M
 counted-spec =
     tie.close
     (tie.spec
-    arguments-requires
+    arguments-of-requires
+    cast-count
     word-requires
     returns
     add-too-many

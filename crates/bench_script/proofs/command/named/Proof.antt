@@ -77,14 +77,20 @@ with-number-requires-4 c κs = search needs
 enum-told-11 : tie.Need-enum-told-11
 enum-told-11 c = search needs
 
-sheet-requires : tie.Need-sheet-requires
-sheet-requires c κs = search needs
+cast-with-limited : tie.Need-cast-with-limited
+cast-with-limited c = search needs
+
+with-limited-requires : tie.Need-with-limited-requires
+with-limited-requires c κs = search needs
 
 enum-told-12 : tie.Need-enum-told-12
 enum-told-12 c = search needs
 
-memory-requires : tie.Need-memory-requires
-memory-requires c κs = search needs
+cast-with-limited-2 : tie.Need-cast-with-limited-2
+cast-with-limited-2 c = search needs
+
+with-limited-requires-2 : tie.Need-with-limited-requires-2
+with-limited-requires-2 c κs = search needs
 
 enum-told-13 : tie.Need-enum-told-13
 enum-told-13 c = search needs
@@ -98,8 +104,8 @@ enum-told-14 c = search needs
 enum-told-15 : tie.Need-enum-told-15
 enum-told-15 c = search needs
 
-controllers-requires : tie.Need-controllers-requires
-controllers-requires c κs = search needs
+with-limited-requires-3 : tie.Need-with-limited-requires-3
+with-limited-requires-3 c κs = search needs
 
 enum-told-16 : tie.Need-enum-told-16
 enum-told-16 c = search needs
@@ -152,11 +158,11 @@ returns-10 c = arm (c .before .before .before .before .args .text .now) (c .befo
 
 returns-11 : tie.Need-returns-11
 unfolding named
-returns-11 c = arm (c .before .before .before .before .args .text .now) (c .before .enum-told11 .given .1) (quiet (c .sheet .ensures))
+returns-11 c = arm (c .before .before .before .before .args .text .now) (c .before .enum-told11 .given .1) (quiet (c .with-limited .ensures))
 
 returns-12 : tie.Need-returns-12
 unfolding named
-returns-12 c = arm (c .before .before .before .before .args .text .now) (c .before .enum-told12 .given .1) (quiet (c .memory .ensures))
+returns-12 c = arm (c .before .before .before .before .args .text .now) (c .before .enum-told12 .given .1) (quiet (c .with-limited2 .ensures))
 
 returns-13 : tie.Need-returns-13
 unfolding named
@@ -168,7 +174,7 @@ returns-14 c = arm (c .before .before .before .args .text .now) (c .enum-told14 
 
 returns-15 : tie.Need-returns-15
 unfolding named
-returns-15 c = arm (c .before .before .before .before .args .text .now) (c .before .enum-told15 .given .1) (quiet (c .controllers .ensures))
+returns-15 c = arm (c .before .before .before .before .args .text .now) (c .before .enum-told15 .given .1) (quiet (c .with-limited3 .ensures))
 
 returns-16 : tie.Need-returns-16
 unfolding named
@@ -203,14 +209,16 @@ named-spec =
     enum-told-10
     with-number-requires-4
     enum-told-11
-    sheet-requires
+    cast-with-limited
+    with-limited-requires
     enum-told-12
-    memory-requires
+    cast-with-limited-2
+    with-limited-requires-2
     enum-told-13
     with-number-requires-5
     enum-told-14
     enum-told-15
-    controllers-requires
+    with-limited-requires-3
     enum-told-16
     object-requires
     enum-told-17

@@ -1,13 +1,7 @@
--- `bench_script::object::send` meets its contract: each field is read behind the one before it.
+-- `bench_script::object::send` meets its contract: the padding is the field's value, or the trouble with it.
 use borrow.Author.Needs.{needs}
 use Rattle.bench_script.proofs.object.send.Statement.{statement}
 use Rattle.bench_script.proofs.object.send.Tie as tie
-
-behind-requires : tie.Need-behind-requires
-behind-requires c κs = search needs
-
-behind-requires-2 : tie.Need-behind-requires-2
-behind-requires-2 c κs = search needs
 
 slice-aggregate-field : tie.Need-slice-aggregate-field
 slice-aggregate-field c = search needs
@@ -15,35 +9,25 @@ slice-aggregate-field c = search needs
 field-requires : tie.Need-field-requires
 field-requires c κs = search needs
 
-slice-aggregate-field-2 : tie.Need-slice-aggregate-field-2
-slice-aggregate-field-2 c = search needs
+enum-known-padding : tie.Need-enum-known-padding
+enum-known-padding c = search needs
 
-field-requires-2 : tie.Need-field-requires-2
-field-requires-2 c κs = search needs
-
-slice-aggregate-field-3 : tie.Need-slice-aggregate-field-3
-slice-aggregate-field-3 c = search needs
-
-field-requires-3 : tie.Need-field-requires-3
-field-requires-3 c κs = search needs
-
-send-made-requires : tie.Need-send-made-requires
-send-made-requires c κs = search needs
+enum-known-padding-2 : tie.Need-enum-known-padding-2
+enum-known-padding-2 c = search needs
 
 returns : tie.Need-returns
-returns c = rw (← c .before .before .before .before .before .before .before .before .behind .ensures, ← c .before .before .before .before .before .before .before .behind2 .ensures, ← c .before .before .before .before .before .field .ensures, ← c .before .before .before .field2 .ensures, ← c .before .field3 .ensures) (c .send-made .ensures)
+returns c = rw (← c .before .before .before .field .ensures, c .before .padding .given .1)
+
+returns-2 : tie.Need-returns-2
+returns-2 c = rw (← c .before .before .before .field .ensures, c .before .padding2 .given .1)
 
 pub send-spec : {M : Type 1} → statement M
 send-spec =
     tie.close
     (tie.spec
-    behind-requires
-    behind-requires-2
     slice-aggregate-field
     field-requires
-    slice-aggregate-field-2
-    field-requires-2
-    slice-aggregate-field-3
-    field-requires-3
-    send-made-requires
-    returns)
+    enum-known-padding
+    enum-known-padding-2
+    returns
+    returns-2)
