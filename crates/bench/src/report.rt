@@ -1,9 +1,9 @@
 // What goes wrong with a whole night, in one line on standard error. `play` reads these lines, too.
 use bench_lines::count::of_bytes;
 use bench_plain::night::Desk;
-use bench_plain::say::one;
-use bench_plain::say::say;
-use bench_plain::say::three;
+use bench_say::say::one;
+use bench_say::say::say;
+use bench_say::say::three;
 use bench_text::put::put;
 use libc::STDERR_FILENO;
 

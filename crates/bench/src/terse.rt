@@ -1,9 +1,9 @@
 // The words style: one line for each call, for programs to compare.
 use bench_plain::notifications::Notification;
 use bench_plain::notifications::notification_at;
-use bench_plain::print::hex_or_none;
-use bench_plain::print::numbered;
-use bench_plain::trouble::message;
+use bench_messages::troubles::trouble as message;
+use bench_say::form::hex_or_none;
+use bench_say::form::numbered;
 use bench_text::put::put;
 use bench_text::put::put_decimal;
 use bench_words::reading::Trouble;

@@ -1,10 +1,9 @@
 // The first rule that bad configuration bytes break, in words.
-use crate::say::NUMBERS;
-use crate::say::one;
-use crate::say::say;
-use crate::say::three;
-use crate::say::two;
-use bench_words::piece::piece;
+use bench_messages::faults;
+use bench_say::say::NUMBERS;
+use bench_say::say::one;
+use bench_say::say::three;
+use bench_say::say::two;
 use bench_words::split::between;
 use can_config::bytes::byte_at;
 use can_config::header::CONTROLLERS_AT;
@@ -15,29 +14,6 @@ use can_config::record::RECORD_SIZE;
 use can_faults::fault::Rule;
 use can_faults::find::fault;
 use core_layout::bytes::number_4;
-
-// The place of a rule in the table below.
-fn place(rule: Rule) -> usize {
-    match rule {
-        Rule::Mark => 0,
-        Rule::Version => 1,
-        Rule::Controllers => 2,
-        Rule::Objects => 3,
-        Rule::ZeroByte => 4,
-        Rule::Size => 5,
-        Rule::Controller => 6,
-        Rule::Kind => 7,
-        Rule::Payload => 8,
-        Rule::SendingCode => 9,
-        Rule::SendingMask => 10,
-        Rule::ReceivingPadding => 11,
-        Rule::CodeBits => 12,
-        Rule::MaskBits => 13,
-        Rule::StandardCode => 14,
-        Rule::StandardMask => 15,
-        Rule::Accepted => 16,
-    }
-}
 
 // Where byte k of an object's record stands; one byte counts the objects.
 fn position(object: usize, k: usize) -> usize {
@@ -116,29 +92,7 @@ fn numbers(bytes: &[u8], object: usize, rule: Rule) -> [u64; NUMBERS] {
 
 // `object 1: payload 9, expected 8 or 64`
 pub fn told(out: &mut [u8], at: usize, bytes: &[u8]) -> usize {
-    let texts = b"the first three bytes are not 43 48 42|\
-        version %0 %0, expected 0 1|\
-        %c, expected 1 to 4|\
-        %o, expected at most 32|\
-        byte 7 is %h, expected 00|\
-        %b, expected %0 for %o|\
-        object %0: controller %0, expected below %0|\
-        object %0: kind %0, expected 0 to send or 1 to receive|\
-        object %0: payload %0, expected 8 or 64|\
-        object %0: code %x, expected 0 where it sends|\
-        object %0: mask %x, expected 0 where it sends|\
-        object %0: padding %h, expected 00 where it receives|\
-        object %0: code %x, expected bits 30 and 29 clear|\
-        object %0: mask %x, expected bits 31 to 29 clear|\
-        object %0: code %x, expected bits 28 to 11 clear where bit 31 is|\
-        object %0: mask %x, expected bits 28 to 11 clear where the code's bit 31 is|\
-        no rule is broken";
     let fault = fault(bytes);
     let rule = fault.rule;
-    say(
-        out,
-        at,
-        piece(texts, place(rule)),
-        numbers(bytes, fault.object, rule),
-    )
+    faults::fault(out, at, rule, numbers(bytes, fault.object, rule))
 }

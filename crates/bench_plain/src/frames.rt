@@ -1,12 +1,9 @@
 // Frames in words.
 use crate::book::origin;
 use crate::book::sent_at;
-use crate::print::hex_or_none;
-use crate::say::NUMBERS;
-use crate::say::one;
-use crate::say::say;
+use bench_messages::frames;
+use bench_say::form::hex_or_none;
 use bench_text::put::put;
-use bench_words::piece::piece;
 use can::OBJECT_SIZE;
 use can::OBJECTS;
 use can::RAM_SIZE;
@@ -53,23 +50,12 @@ pub fn written(
     object: u32,
     handle: u64,
 ) -> usize {
-    let numbers: [u64; NUMBERS] = [
-        object as u64,
-        handle,
-        identifier_in(ram, object),
-        origin(book, object),
-        0,
-    ];
-    say(
-        out,
-        at,
-        b"object %2  handle %5  id %Iwritten at line %l",
-        numbers,
-    )
+    let identifier = identifier_in(ram, object);
+    let line = origin(book, object);
+    frames::written(out, at, object as u64, handle, identifier, line)
 }
 
 // The line of the sent event, if there was one.
 pub fn sent(out: &mut [u8], at: usize, book: &[u64], object: u32, done: bool) -> usize {
-    let text = piece(b"not sent              |sent at line %l", done as usize);
-    say(out, at, text, one(sent_at(book, object)))
+    frames::sent(out, at, done, sent_at(book, object))
 }

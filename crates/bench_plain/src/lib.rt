@@ -1,7 +1,5 @@
 // What the bench says in plain words, and what it keeps of a night for that. A part of the program, which names no promise beyond being safe
 // and ending.
-pub mod answer;
-pub mod asked;
 pub mod book;
 pub mod draft;
 pub mod fault;
@@ -11,11 +9,8 @@ pub mod night;
 pub mod notifications;
 pub mod object;
 pub mod plain;
-pub mod print;
 pub mod refused;
-pub mod say;
 pub mod state;
 pub mod summary;
 pub mod suspect;
-pub mod trouble;
 pub mod waiting;

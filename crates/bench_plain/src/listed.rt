@@ -8,8 +8,7 @@ use crate::night::Lists;
 use crate::night::OUT_ROOM;
 use crate::night::more;
 use crate::notifications::Notification;
-use crate::say::say;
-use crate::say::two;
+use bench_messages::frames;
 use bench_text::put::has_room;
 use can::OBJECTS;
 use can::State;
@@ -34,8 +33,7 @@ fn entry(
     line: u64,
 ) -> usize {
     let controller = owner(state, n.place) as u64;
-    let numbers = two(line, controller);
-    let mut end = say(out, at, b"  poll at line %6  controller %0  ", numbers);
+    let mut end = frames::polled(out, at, line, controller);
     end = written(out, end, book, ram, n.place, n.second as u64);
     end = sent(out, end, book, n.place, is_done(state, n.place));
     data(out, end, ram, n.place)

@@ -1,6 +1,5 @@
 // An object's bytes.
-use crate::say::NUMBERS;
-use crate::say::say;
+use bench_messages::frames;
 use bench_text::put::put;
 use bench_text::put::put_hex;
 use can::OBJECT_SIZE;
@@ -34,15 +33,14 @@ pub fn shown(out: &mut [u8], at: usize, object: &[u8]) -> usize {
     if object.len() < HEAD_SIZE {
         return put(out, at, b"          none\n");
     }
-    let numbers: [u64; NUMBERS] = [
+    let mut end = frames::head(
+        out,
+        at,
         number_4(object, 0) as u64,
         wide(object[4]),
         wide(object[5]),
         number_2(object, 6) as u64,
-        0,
-    ];
-    let text = b"          identifier word %H, wire length %0, DLC %0, handle %0\n          data ";
-    let mut end = say(out, at, text, numbers);
+    );
     end = put_hex(out, end, &object[HEAD_SIZE..]);
     put(out, end, b"\n")
 }

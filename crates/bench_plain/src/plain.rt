@@ -1,31 +1,40 @@
 // The plain style: each line in words.
-use crate::answer;
-use crate::asked;
 use crate::night::Desk;
 use crate::object;
-use crate::print::hex_or_none;
-use crate::print::to_column;
 use crate::refused;
-use crate::say::say;
-use crate::say::two;
 use crate::state;
 use crate::suspect;
-use crate::trouble::expected;
-use crate::trouble::message;
+use bench_messages::answers;
+use bench_messages::calls;
+use bench_messages::lines;
+use bench_messages::troubles;
+use bench_say::form::hex_or_none;
+use bench_say::form::to_column;
 use bench_script::name::Name;
 use bench_text::put::put;
 use bench_words::reading::Trouble;
 use can::State;
 use can::Verdict;
+use can_calls::answer::Answer;
 use can_calls::perform::Played;
+use can_calls::request::Function;
 use can_calls::request::Request;
 
 // The column at which answers begin.
 const ANSWER: usize = 66;
 
-// A line's number, and a text with a number.
-fn begun(out: &mut [u8], at: usize, line: u64, text: &[u8], n: u64) -> usize {
-    say(out, at, text, two(line, n))
+// What an accepted call answers; the state is that after it.
+fn accepted(
+    out: &mut [u8],
+    at: usize,
+    function: Function,
+    answer: Answer,
+    next: State,
+    told: usize,
+) -> usize {
+    let controllers = next.controller_count as u64;
+    let objects = next.object_count as u64;
+    answers::answer(out, at, answer, function, told, controllers, objects)
 }
 
 // What came of a call; the state is that before it.
@@ -45,7 +54,7 @@ fn replied(
     let function = request.function;
     let answer = played.answer;
     match verdict {
-        Verdict::Accepted => answer::call(out, at, function, answer, next, played.notifications),
+        Verdict::Accepted => accepted(out, at, function, answer, next, played.notifications),
         Verdict::Rejected(reason) => refused::call(
             out,
             at,
@@ -72,8 +81,8 @@ pub fn call(
     bytes: &[u8],
     played: Played,
 ) -> usize {
-    let mut end = begun(out, at, desk.line, b"%6  ", 0);
-    end = asked::call(out, end, request, length);
+    let mut end = lines::number(out, at, desk.line);
+    end = calls::call(out, end, request, length);
     end = to_column(out, end, at, ANSWER);
     end = replied(out, end, state, desk, book, request, length, bytes, played);
     put(out, end, b"\n")
@@ -81,7 +90,7 @@ pub fn call(
 
 // Data of an object.
 pub fn data(out: &mut [u8], at: usize, line: u64, object: u32, data: &[u8]) -> usize {
-    let mut end = begun(out, at, line, b"%6  data of object %0", object as u64);
+    let mut end = lines::data(out, at, line, object as u64);
     end = to_column(out, end, at, ANSWER);
     end = hex_or_none(out, end, data);
     put(out, end, b"\n")
@@ -89,10 +98,10 @@ pub fn data(out: &mut [u8], at: usize, line: u64, object: u32, data: &[u8]) -> u
 
 // All bytes of an object.
 pub fn show(out: &mut [u8], at: usize, line: u64, object: u32, bytes: &[u8]) -> usize {
-    let mut end = begun(out, at, line, b"%6  show object %0", object as u64);
+    let mut end = lines::show(out, at, line, object as u64);
     if bytes.len() == 0 {
         end = to_column(out, end, at, ANSWER);
-        return put(out, end, b"there is no such object\n");
+        return lines::no_object(out, end);
     }
     end = put(out, end, b"\n");
     object::shown(out, end, bytes)
@@ -100,7 +109,7 @@ pub fn show(out: &mut [u8], at: usize, line: u64, object: u32, bytes: &[u8]) -> 
 
 // The driver state.
 pub fn state(out: &mut [u8], at: usize, line: u64, state: State) -> usize {
-    let mut end = begun(out, at, line, b"%6  state", 0);
+    let mut end = lines::state(out, at, line);
     end = to_column(out, end, at, ANSWER);
     end = state::counts(out, end, state);
     end = put(out, end, b"\n");
@@ -110,7 +119,7 @@ pub fn state(out: &mut [u8], at: usize, line: u64, state: State) -> usize {
 
 // What is wrong with which word, and what may have been meant.
 fn wrong(out: &mut [u8], at: usize, trouble: Trouble, name: Name, line: &[u8]) -> usize {
-    let mut end = message(out, at, trouble);
+    let mut end = troubles::trouble(out, at, trouble);
     end = suspect::shown(out, end, trouble, name, line);
     suspect::guessed(out, end, line)
 }
@@ -124,9 +133,9 @@ pub fn unreadable(
     name: Name,
     line: &[u8],
 ) -> usize {
-    let mut end = begun(out, at, number, b"%6  not understood: ", 0);
+    let mut end = lines::not_understood(out, at, number);
     end = wrong(out, end, trouble, name, line);
-    end = put(out, end, b"; expected ");
-    end = expected(out, end, trouble, name);
+    end = lines::but_expected(out, end);
+    end = troubles::expected(out, end, trouble, name);
     put(out, end, b"\n")
 }

@@ -2,12 +2,11 @@
 use crate::book::origin;
 use crate::fault;
 use crate::night::Desk;
-use crate::say::NUMBERS;
-use crate::say::one;
-use crate::say::say;
-use crate::say::three;
-use crate::say::two;
-use bench_words::piece::piece;
+use bench_messages::refusals;
+use bench_say::say::NUMBERS;
+use bench_say::say::one;
+use bench_say::say::three;
+use bench_say::say::two;
 use can::CONTROLLERS;
 use can::OBJECTS;
 use can::RAM_SIZE;
@@ -16,8 +15,6 @@ use can::SHEET_SIZE;
 use can::State;
 use can_calls::request::Function;
 use can_calls::request::Request;
-use can_frame::identifier::is_fd;
-use can_frame::length::LONGEST_FD;
 
 // The controller of an object; 0 if there is no such object.
 fn controller_of(state: State, object: u32) -> u64 {
@@ -48,49 +45,6 @@ fn controller_named(state: State, request: Request) -> u64 {
     }
 }
 
-// 6: a service that cannot go there from here.
-fn transition_place(function: Function, initialised: bool) -> usize {
-    match function {
-        Function::Init => 3,
-        Function::Set => 4,
-        _ => { if initialised { 5 } else { 2 } }
-    }
-}
-
-// 3: data that does not fit the format or the object.
-fn data_place(identifier: u32, length: u32) -> usize {
-    if !is_fd(identifier) {
-        return 6;
-    }
-    if LONGEST_FD < length { 7 } else { 8 }
-}
-
-// 40: a length that no frame of its format has on the wire.
-fn wire_place(identifier: u32) -> usize {
-    if is_fd(identifier) { 9 } else { 10 }
-}
-
-// The place of a reason in the table below.
-fn place(reason: Rejection, request: Request, length: u32, initialised: bool) -> usize {
-    let function = request.function;
-    match reason {
-        Rejection::ParamHandle => 0,
-        Rejection::ParamController => 1,
-        Rejection::Uninit => 2,
-        Rejection::Transition => transition_place(function, initialised),
-        Rejection::ParamDataLength => data_place(request.identifier, length),
-        Rejection::BadLength => wire_place(request.identifier),
-        Rejection::SheetTooShort => 11,
-        Rejection::WrongRamSize => 12,
-        Rejection::BadIdentifier => 13,
-        Rejection::NotStarted => 14,
-        Rejection::ObjectBusy => 15,
-        Rejection::BusOff => 16,
-        Rejection::NothingToSend => 17,
-        _ => 18,
-    }
-}
-
 // The numbers of a reason, in the order of its text; line is the one that wrote the frame of the object.
 fn numbers(
     reason: Rejection,
@@ -117,38 +71,6 @@ fn numbers(
     }
 }
 
-// What a reason means here.
-fn meaning(out: &mut [u8], at: usize, place: usize, numbers: [u64; NUMBERS]) -> usize {
-    let texts = b"object %0 is no configured sending object|\
-        controller %0 is not configured|\
-        the driver is not initialised|\
-        the driver is initialised already|\
-        controller %0 cannot go from %m to %m|\
-        a controller is STARTED|\
-        %b, and a classic frame holds at most 8|\
-        %b, and an FD frame holds at most 64|\
-        %b as an FD frame, and the object's payload is 8|\
-        no FD frame on the wire has %b|\
-        no classic frame on the wire has %b|\
-        the sheet has %w, and a call needs %0|\
-        the memory has %b, and the chip's has %0|\
-        id %i is not a valid identifier|\
-        controller %0 is not STARTED|\
-        object %0 holds the frame of line %0|\
-        controller %0 is off the bus|\
-        object %0 holds no frame that waits to be sent|\
-        the driver state is not valid";
-    say(out, at, piece(texts, place), numbers)
-}
-
-// Whether it is CAN_BUSY, which is its own word.
-fn word_place(reason: Rejection) -> usize {
-    match reason {
-        Rejection::ObjectBusy => 1,
-        _ => 0,
-    }
-}
-
 fn is_configuration(reason: Rejection) -> bool {
     match reason {
         Rejection::InitFailed => true,
@@ -168,13 +90,23 @@ pub fn call(
     bytes: &[u8],
     reason: Rejection,
 ) -> usize {
-    let word = piece(b"rejected %0: |busy %0: ", word_place(reason));
-    let end = say(out, at, word, one(can::reason(reason) as u64));
+    let end = refusals::verdict(out, at, reason);
     if is_configuration(reason) {
         return fault::told(out, end, bytes);
     }
     let line = origin(book, request.object);
-    let place = place(reason, request, length, state.initialised);
     let numbers = numbers(reason, request, length, state, desk, line);
-    meaning(out, end, place, numbers)
+    let function = request.function;
+    let identifier = request.identifier;
+    let initialised = state.initialised;
+    refusals::refusal(
+        out,
+        end,
+        reason,
+        function,
+        identifier,
+        length,
+        initialised,
+        numbers,
+    )
 }

@@ -2,10 +2,9 @@
 use crate::book;
 use crate::book::counted;
 use crate::book::total;
-use crate::say::one;
-use crate::say::say;
+use bench_messages::totals;
+use bench_messages::totals::ROWS;
 use bench_text::put::put;
-use bench_words::piece::piece;
 use can::CONTROLLERS;
 use core_places::range::limited;
 
@@ -22,7 +21,7 @@ fn columns(book: &[u64]) -> usize {
 fn headings(out: &mut [u8], at: usize, columns: usize) -> usize {
     let mut end = at;
     for c in 0..columns {
-        end = say(out, end, b"  controller %0", one(c as u64));
+        end = totals::controller(out, end, c as u64);
     }
     end
 }
@@ -31,32 +30,17 @@ fn headings(out: &mut [u8], at: usize, columns: usize) -> usize {
 fn cells(out: &mut [u8], at: usize, book: &[u64], what: usize, columns: usize) -> usize {
     let mut end = at;
     for c in 0..columns {
-        end = say(out, end, b"      %8", one(counted(book, c, what)));
+        end = totals::cell(out, end, counted(book, c, what));
     }
     end
 }
 
 // One line of the table.
 fn row(out: &mut [u8], at: usize, book: &[u64], what: usize) -> usize {
-    let texts = b"frames written       %8|\
-        confirmed            %8|\
-        cancelled by a stop  %8|\
-        taken by a bus-off   %8|\
-        still waiting        %8|\
-        frames arrived       %8|\
-        read                 %8|\
-        still unread         %8|\
-        dropped by DeInit    %8|\
-        lost                 %8|\
-        unwanted             %8";
-    let mut end = put(out, at, b"  ");
-    end = say(out, end, piece(texts, what), one(total(book, what)));
+    let mut end = totals::row(out, at, what, total(book, what));
     end = cells(out, end, book, what, columns(book));
     put(out, end, b"\n")
 }
-
-// How many lines the table has.
-const ROWS: usize = 11;
 
 fn rows(out: &mut [u8], at: usize, book: &[u64]) -> usize {
     let mut end = at;
@@ -69,27 +53,24 @@ fn rows(out: &mut [u8], at: usize, book: &[u64]) -> usize {
 // The heading of the table.
 fn heading(out: &mut [u8], at: usize, book: &[u64]) -> usize {
     let columns = columns(book);
+    let end = totals::heading(out, at, 0 < columns);
     if columns == 0 {
-        return put(out, at, b"\nAt the end of the night\n");
+        return end;
     }
-    let mut end = put(out, at, b"\nAt the end of the night     all");
-    end = headings(out, end, columns);
-    put(out, end, b"\n")
+    let end_of_row = headings(out, end, columns);
+    put(out, end_of_row, b"\n")
 }
 
 // The totals of a night.
 pub fn totals(out: &mut [u8], at: usize, book: &[u64], unreadable: u64) -> usize {
     let mut end = heading(out, at, book);
     end = rows(out, end, book);
-    say(out, end, b"  lines not understood %8\n", one(unreadable))
+    totals::unreadable(out, end, unreadable)
 }
 
 // The heading of the list of frames that a bus-off took.
 pub fn taken_heading(out: &mut [u8], at: usize, book: &[u64]) -> usize {
-    if total(book, book::TAKEN) == 0 {
-        return put(out, at, b"\nTaken by bus-off: no frame\n");
-    }
-    put(out, at, b"\nTaken by bus-off\n")
+    totals::taken(out, at, total(book, book::TAKEN) != 0)
 }
 
 // The heading of the list of frames that a stop cancelled, where there are any.
@@ -97,7 +78,7 @@ pub fn cancelled_heading(out: &mut [u8], at: usize, book: &[u64]) -> usize {
     if total(book, book::CANCELLED) == 0 {
         return at;
     }
-    put(out, at, b"\nCancelled by a stop\n")
+    totals::cancelled(out, at)
 }
 
 // Frames that a list had no room for.
@@ -105,10 +86,5 @@ pub fn unlisted(out: &mut [u8], at: usize, n: u64) -> usize {
     if n == 0 {
         return at;
     }
-    say(
-        out,
-        at,
-        b"  and %0 more, each shown under its poll above\n",
-        one(n),
-    )
+    totals::unlisted(out, at, n)
 }

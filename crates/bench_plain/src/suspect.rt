@@ -1,6 +1,7 @@
 // The word that is wrong with a line that was not understood, so that it can be found in the script, and what may have been meant.
-use crate::print::hex_or_none;
 use bench_lines::count::of_bytes;
+use bench_messages::lines;
+use bench_say::form::hex_or_none;
 use bench_script::command::LARGEST_BYTE;
 use bench_script::name::Name;
 use bench_text::put::put;
@@ -9,8 +10,12 @@ use bench_words::identifier::identifier;
 use bench_words::number::number;
 use bench_words::reading::Reading;
 use bench_words::reading::Trouble;
+use bench_words::split::Span;
+use bench_words::split::between;
+use bench_words::split::next_word;
 use bench_words::split::same;
 use bench_words::split::word;
+use bench_words::split::word_at;
 use bytes::scan::find;
 
 // No line has so many words.
@@ -79,16 +84,16 @@ fn is_bytes(word: &[u8]) -> bool {
     all_digits(word, 16) & (word.len() % 2 == 0)
 }
 
-// The first of the words that say bytes which does not.
-fn bad_byte(name: Name, line: &[u8]) -> usize {
-    let first = first_byte(name);
-    for k in 0..LOOKED_AT {
-        let place = std::num::wrapping_add_usize(first, k);
-        if !is_bytes(word(line, place)) {
-            return place;
+// The first of the words that say bytes which does not; they begin with this one.
+fn bad_byte(line: &[u8], first: Span) -> Span {
+    let mut span = first;
+    for _ in 0..LOOKED_AT {
+        if !is_bytes(between(line, span.start, span.end)) {
+            return span;
         }
+        span = next_word(line, span.end);
     }
-    first
+    span
 }
 
 // The fixed word that another one stands for.
@@ -115,7 +120,7 @@ fn too_many(name: Name, line: &[u8]) -> usize {
     }
 }
 
-// Which word is wrong: none where the trouble is with the whole line.
+// Which word is wrong, or where the bytes begin of which one is; none where the trouble is with the whole line.
 fn place(trouble: Trouble, name: Name, line: &[u8]) -> usize {
     match trouble {
         Trouble::UnknownCommand => 0,
@@ -125,7 +130,7 @@ fn place(trouble: Trouble, name: Name, line: &[u8]) -> usize {
             line,
         ),
         Trouble::NotAnIdentifier | Trouble::IdentifierTooLong => bad_identifier(name, line),
-        Trouble::NotHexDigits | Trouble::OddDigits => bad_byte(name, line),
+        Trouble::NotHexDigits | Trouble::OddDigits => first_byte(name),
         Trouble::NotOneByte => 7,
         Trouble::UnexpectedWord => unexpected(line),
         Trouble::NotAMode | Trouble::HandleTooLarge => 2,
@@ -164,14 +169,24 @@ fn quoted(out: &mut [u8], at: usize, text: &[u8]) -> usize {
     put(out, end, b"\"")
 }
 
+// Where the word that is wrong stands.
+fn wrong(trouble: Trouble, name: Name, line: &[u8]) -> Span {
+    let span = word_at(line, place(trouble, name, line));
+    match trouble {
+        Trouble::NotHexDigits | Trouble::OddDigits => bad_byte(line, span),
+        _ => span,
+    }
+}
+
 // The beginning of the word that is wrong.
 pub fn shown(out: &mut [u8], at: usize, trouble: Trouble, name: Name, line: &[u8]) -> usize {
-    let wrong = word(line, place(trouble, name, line));
-    if wrong.len() == 0 {
+    let span = wrong(trouble, name, line);
+    let word = between(line, span.start, span.end);
+    if word.len() == 0 {
         return at;
     }
-    let end = of_bytes(SHOWN, wrong);
-    quoted(out, at, &wrong[..end])
+    let end = of_bytes(SHOWN, word);
+    quoted(out, at, &word[..end])
 }
 
 // Whether a line begins with a byte order mark, which some editors write.
@@ -185,10 +200,10 @@ fn has_mark(line: &[u8]) -> bool {
 // What may have been meant.
 pub fn guessed(out: &mut [u8], at: usize, line: &[u8]) -> usize {
     if has_mark(line) {
-        return put(out, at, b" (a byte order mark?)");
+        return lines::order_mark(out, at);
     }
     if find(line, 0, line.len(), b'\r') < line.len() {
-        return put(out, at, b" (lines that end in CR alone?)");
+        return lines::lone_cr(out, at);
     }
     at
 }

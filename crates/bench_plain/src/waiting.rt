@@ -5,10 +5,8 @@ use crate::frames::data;
 use crate::frames::handle_in;
 use crate::frames::sent;
 use crate::frames::written;
-use crate::say::one;
-use crate::say::say;
-use bench_text::put::put;
-use bench_words::piece::piece;
+use bench_messages::frames;
+use bench_messages::totals;
 use can::CONTROLLERS;
 use can::OBJECTS;
 use can::State;
@@ -31,11 +29,8 @@ fn one_of(out: &mut [u8], at: usize, state: State, book: &[u64], ram: &[u8], h: 
     }
     let object = h as u32;
     let controller = state.owners[h] as usize;
-    let text = piece(
-        b"  controller %0               |  controller %0, off the bus  ",
-        is_off(state, controller) as usize,
-    );
-    let mut end = say(out, at, text, one(controller as u64));
+    let off = is_off(state, controller);
+    let mut end = frames::waiting(out, at, controller as u64, off);
     end = written(out, end, book, ram, object, handle_in(ram, object));
     end = sent(out, end, book, object, state.dones[h]);
     data(out, end, ram, object)
@@ -55,6 +50,6 @@ pub fn list(out: &mut [u8], at: usize, state: State, book: &[u64], ram: &[u8]) -
     if total(book, book::WAITING) == 0 {
         return at;
     }
-    let end = put(out, at, b"\nStill waiting\n");
+    let end = totals::waiting(out, at);
     each(out, end, state, book, ram)
 }

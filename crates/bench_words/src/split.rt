@@ -61,7 +61,7 @@ pub fn next_word(line: &[u8], at: usize) -> Span
 }
 
 // Where word n stands. Word 0 is the command's name.
-fn word_at(line: &[u8], n: usize) -> Span
+pub fn word_at(line: &[u8], n: usize) -> Span
     ensures { λ r. ⌜ r ≡ word-at (now (line .entry)) n ⌝ }
 {
     let mut span = next_word(line, 0);

@@ -1,14 +1,9 @@
 // The line that a case prints: `LINE CODE REASON ANSWER COUNT STATE MEMORY SHEET`.
+use bench_say::form::numbered;
 use bench_text::put::put;
 use bench_text::put::put_decimal;
 use can::Verdict;
 use can_calls::answer::Answer;
-
-// A number with a word before it.
-fn numbered(out: &mut [u8], at: usize, word: &[u8], n: u64) -> usize {
-    let end = put(out, at, word);
-    put_decimal(out, end, n)
-}
 
 fn answer(out: &mut [u8], at: usize, answer: Answer) -> usize {
     match answer {

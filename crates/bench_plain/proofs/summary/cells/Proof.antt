@@ -7,25 +7,19 @@ use Rattle.bench_plain.proofs.summary.cells.Statement.{statement}
 use Rattle.bench_plain.proofs.summary.cells.Tie as tie
 
 abbrev Inv-loop : tie.InvT-loop
-Inv-loop out₀ at book what columns end₀ c₀ t8 out end c = (c ≤ columns) × (length out ≡ length out₀)
+Inv-loop out₀ at book what columns end₀ c₀ out end c = (c ≤ columns) × (length out ≡ length out₀)
 
 abbrev μ-loop : tie.MeasureT-loop
-μ-loop out₀ at book what columns end₀ c₀ t8 out end c = columns - c
+μ-loop out₀ at book what columns end₀ c₀ out end c = columns - c
 
 loop-holds : tie.Need-loop-holds Inv-loop μ-loop
 loop-holds c = search needs
 
-slice-aggregate-say : tie.Need-slice-aggregate-say Inv-loop μ-loop
-slice-aggregate-say c = search needs
-
 counted-requires : tie.Need-counted-requires Inv-loop μ-loop
 counted-requires c κs = search needs
 
-one-requires : tie.Need-one-requires Inv-loop μ-loop
-one-requires c κs = search needs
-
-say-requires : tie.Need-say-requires Inv-loop μ-loop
-say-requires c κs = search needs
+cell-requires : tie.Need-cell-requires Inv-loop μ-loop
+cell-requires c κs = search needs
 
 add-c : tie.Need-add-c Inv-loop μ-loop
 add-c c = search needs
@@ -49,10 +43,8 @@ cells-spec =
     Inv-loop
     μ-loop
     loop-holds
-    slice-aggregate-say
     counted-requires
-    one-requires
-    say-requires
+    cell-requires
     add-c
     loop-less
     loop-again

@@ -7,22 +7,16 @@ use Rattle.bench_plain.proofs.summary.headings.Statement.{statement}
 use Rattle.bench_plain.proofs.summary.headings.Tie as tie
 
 abbrev Inv-loop : tie.InvT-loop
-Inv-loop out₀ at columns end₀ c₀ t6 out end c = (c ≤ columns) × (length out ≡ length out₀)
+Inv-loop out₀ at columns end₀ c₀ out end c = (c ≤ columns) × (length out ≡ length out₀)
 
 abbrev μ-loop : tie.MeasureT-loop
-μ-loop out₀ at columns end₀ c₀ t6 out end c = columns - c
+μ-loop out₀ at columns end₀ c₀ out end c = columns - c
 
 loop-holds : tie.Need-loop-holds Inv-loop μ-loop
 loop-holds c = search needs
 
-slice-aggregate-say : tie.Need-slice-aggregate-say Inv-loop μ-loop
-slice-aggregate-say c = search needs
-
-one-requires : tie.Need-one-requires Inv-loop μ-loop
-one-requires c κs = search needs
-
-say-requires : tie.Need-say-requires Inv-loop μ-loop
-say-requires c κs = search needs
+controller-requires : tie.Need-controller-requires Inv-loop μ-loop
+controller-requires c κs = search needs
 
 add-c : tie.Need-add-c Inv-loop μ-loop
 add-c c = search needs
@@ -46,9 +40,7 @@ headings-spec =
     Inv-loop
     μ-loop
     loop-holds
-    slice-aggregate-say
-    one-requires
-    say-requires
+    controller-requires
     add-c
     loop-less
     loop-again

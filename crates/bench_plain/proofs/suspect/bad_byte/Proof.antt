@@ -5,22 +5,16 @@ use Rattle.bench_plain.proofs.suspect.bad_byte.Statement.{statement}
 use Rattle.bench_plain.proofs.suspect.bad_byte.Tie as tie
 
 abbrev Inv-loop : tie.InvT-loop
-Inv-loop line first k₀ k = k ≤ 4096
+Inv-loop line span₀ counter₀ span counter = counter ≤ 4096
 
 abbrev μ-loop : tie.MeasureT-loop
-μ-loop line first k₀ k = 4096 - k
-
-first-byte-requires : tie.Need-first-byte-requires Inv-loop μ-loop
-first-byte-requires c κs = search needs
+μ-loop line span₀ counter₀ span counter = 4096 - counter
 
 loop-holds : tie.Need-loop-holds Inv-loop μ-loop
 loop-holds c = search needs
 
-wrapping-add-usize-requires : tie.Need-wrapping-add-usize-requires Inv-loop μ-loop
-wrapping-add-usize-requires c κs = search needs
-
-word-requires : tie.Need-word-requires Inv-loop μ-loop
-word-requires c κs = search needs
+between-requires : tie.Need-between-requires Inv-loop μ-loop
+between-requires c κs = search needs
 
 is-bytes-requires : tie.Need-is-bytes-requires Inv-loop μ-loop
 is-bytes-requires c κs = search needs
@@ -28,8 +22,11 @@ is-bytes-requires c κs = search needs
 returns : tie.Need-returns Inv-loop μ-loop
 returns c = search needs
 
-add-k : tie.Need-add-k Inv-loop μ-loop
-add-k c = search needs
+next-word-requires : tie.Need-next-word-requires Inv-loop μ-loop
+next-word-requires c κs = search needs
+
+add-counter : tie.Need-add-counter Inv-loop μ-loop
+add-counter c = search needs
 
 loop-less : tie.Need-loop-less Inv-loop μ-loop
 loop-less c = search needs
@@ -46,13 +43,12 @@ bad-byte-spec =
     (tie.spec
     Inv-loop
     μ-loop
-    first-byte-requires
     loop-holds
-    wrapping-add-usize-requires
-    word-requires
+    between-requires
     is-bytes-requires
     returns
-    add-k
+    next-word-requires
+    add-counter
     loop-less
     loop-again
     returns-2)
