@@ -1,7 +1,7 @@
 // The words style: one line for each call, for programs to compare.
+use bench_messages::troubles;
 use bench_plain::notifications::Notification;
 use bench_plain::notifications::notification_at;
-use bench_messages::troubles::trouble as message;
 use bench_say::form::hex_or_none;
 use bench_say::form::numbered;
 use bench_text::put::put;
@@ -216,6 +216,6 @@ pub fn state(out: &mut [u8], at: usize, line: u64, state: State) -> usize {
 pub fn unreadable(out: &mut [u8], at: usize, line: u64, trouble: Trouble) -> usize {
     let mut end = put_decimal(out, at, line);
     end = put(out, end, b" ? ");
-    end = message(out, end, trouble);
+    end = troubles::trouble(out, end, trouble);
     put(out, end, b"\n")
 }
