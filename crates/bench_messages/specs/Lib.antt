@@ -1,7 +1,4 @@
--- The texts of the plain style, and their numbers.
-pub mod Calls
-pub mod Answers
-pub mod Refusals
+-- The other texts of the plain style, and their numbers.
 pub mod Faults
 pub mod Troubles
 pub mod Notices

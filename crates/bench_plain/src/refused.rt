@@ -2,7 +2,7 @@
 use crate::book::origin;
 use crate::fault;
 use crate::night::Desk;
-use bench_messages::refusals;
+use bench_replies::refusals;
 use bench_say::say::NUMBERS;
 use bench_say::say::one;
 use bench_say::say::three;

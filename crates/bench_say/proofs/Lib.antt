@@ -1,3 +1,4 @@
--- Laws of numbers in columns, and of a text filled byte by byte.
+-- Laws of numbers in columns, of a text filled byte by byte, and texts in a row.
 pub mod Columns
 pub mod Saying
+pub mod Joined

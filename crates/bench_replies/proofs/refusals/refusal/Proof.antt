@@ -1,8 +1,8 @@
--- `bench_messages::refusals::refusal` meets its contract: the text is that of the reason.
-use Rattle.bench_messages.proofs.Tables.{refusal-found}
+-- `bench_replies::refusals::refusal` meets its contract: the text is that of the reason.
+use Rattle.bench_replies.proofs.Tables.{refusal-found}
 use borrow.Author.Needs.{needs}
-use Rattle.bench_messages.proofs.refusals.refusal.Statement.{statement}
-use Rattle.bench_messages.proofs.refusals.refusal.Tie as tie
+use Rattle.bench_replies.proofs.refusals.refusal.Statement.{statement}
+use Rattle.bench_replies.proofs.refusals.refusal.Tie as tie
 
 other-place-requires : tie.Need-other-place-requires
 other-place-requires c κs = search needs

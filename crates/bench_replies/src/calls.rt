@@ -2,8 +2,8 @@
 ghost use mathlib.Core.Path.{_≡_};
 ghost use Rattle.bench_text.specs.Put.{Put};
 ghost use Rattle.bench_say.specs.Say.{said};
-ghost use Rattle.bench_messages.specs.Calls.{call-text, call-numbers};
-ghost use Rattle.bench_messages.specs.Places.{call-place};
+ghost use Rattle.bench_replies.specs.Calls.{call-text, call-numbers};
+ghost use Rattle.bench_replies.specs.Places.{call-place};
 use bench_say::say::NUMBERS;
 use bench_say::say::say_one;
 use can_calls::request::Function;

@@ -1,8 +1,8 @@
--- `bench_messages::calls::call` meets its contract: the text and the numbers are those of the call.
-use Rattle.bench_messages.proofs.Tables.{call-found}
+-- `bench_replies::calls::call` meets its contract: the text and the numbers are those of the call.
+use Rattle.bench_replies.proofs.Tables.{call-found}
 use borrow.Author.Needs.{needs}
-use Rattle.bench_messages.proofs.calls.call.Statement.{statement}
-use Rattle.bench_messages.proofs.calls.call.Tie as tie
+use Rattle.bench_replies.proofs.calls.call.Statement.{statement}
+use Rattle.bench_replies.proofs.calls.call.Tie as tie
 
 place-requires : tie.Need-place-requires
 place-requires c κs = search needs

@@ -1,7 +1,7 @@
--- `bench_messages::calls::numbers` meets its contract: each case is that of the definition.
+-- `bench_replies::calls::numbers` meets its contract: each case is that of the definition.
 use borrow.Author.Needs.{needs}
-use Rattle.bench_messages.proofs.calls.numbers.Statement.{statement}
-use Rattle.bench_messages.proofs.calls.numbers.Tie as tie
+use Rattle.bench_replies.proofs.calls.numbers.Statement.{statement}
+use Rattle.bench_replies.proofs.calls.numbers.Tie as tie
 
 cast-controller : tie.Need-cast-controller
 cast-controller c = search needs

@@ -1,8 +1,8 @@
--- `bench_messages::answers::answer` meets its contract: the text and the numbers are those of the answer.
-use Rattle.bench_messages.proofs.Tables.{answer-found}
+-- `bench_replies::answers::answer` meets its contract: the text and the numbers are those of the answer.
+use Rattle.bench_replies.proofs.Tables.{answer-found}
 use borrow.Author.Needs.{needs}
-use Rattle.bench_messages.proofs.answers.answer.Statement.{statement}
-use Rattle.bench_messages.proofs.answers.answer.Tie as tie
+use Rattle.bench_replies.proofs.answers.answer.Statement.{statement}
+use Rattle.bench_replies.proofs.answers.answer.Tie as tie
 
 polled-place-requires : tie.Need-polled-place-requires
 polled-place-requires c κs = search needs

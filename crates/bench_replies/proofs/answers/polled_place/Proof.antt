@@ -1,7 +1,7 @@
--- `bench_messages::answers::polled_place` meets its contract: the test picks the case.
+-- `bench_replies::answers::polled_place` meets its contract: the test picks the case.
 use borrow.Author.Tests.{eq-eqb, ne-eqb}
-use Rattle.bench_messages.proofs.answers.polled_place.Statement.{statement}
-use Rattle.bench_messages.proofs.answers.polled_place.Tie as tie
+use Rattle.bench_replies.proofs.answers.polled_place.Statement.{statement}
+use Rattle.bench_replies.proofs.answers.polled_place.Tie as tie
 
 returns : tie.Need-returns
 returns c =

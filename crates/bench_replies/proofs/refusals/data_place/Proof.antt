@@ -1,9 +1,9 @@
--- `bench_messages::refusals::data_place` meets its contract: the tests pick the case.
+-- `bench_replies::refusals::data_place` meets its contract: the tests pick the case.
 use mathlib.Core.Path.{sym, _∙_}
 use borrow.Author.Tests.{lt-ltb, le-ltb}
 use borrow.Author.Needs.{needs}
-use Rattle.bench_messages.proofs.refusals.data_place.Statement.{statement}
-use Rattle.bench_messages.proofs.refusals.data_place.Tie as tie
+use Rattle.bench_replies.proofs.refusals.data_place.Statement.{statement}
+use Rattle.bench_replies.proofs.refusals.data_place.Tie as tie
 
 is-fd-requires : tie.Need-is-fd-requires
 is-fd-requires c κs = search needs

@@ -1,8 +1,8 @@
--- `bench_messages::refusals::wire_place` meets its contract: the test picks the case.
+-- `bench_replies::refusals::wire_place` meets its contract: the test picks the case.
 use mathlib.Core.Path.{sym, _∙_}
 use borrow.Author.Needs.{needs}
-use Rattle.bench_messages.proofs.refusals.wire_place.Statement.{statement}
-use Rattle.bench_messages.proofs.refusals.wire_place.Tie as tie
+use Rattle.bench_replies.proofs.refusals.wire_place.Statement.{statement}
+use Rattle.bench_replies.proofs.refusals.wire_place.Tie as tie
 
 is-fd-requires : tie.Need-is-fd-requires
 is-fd-requires c κs = search needs

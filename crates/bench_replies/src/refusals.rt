@@ -2,8 +2,8 @@
 ghost use mathlib.Core.Path.{_≡_};
 ghost use Rattle.bench_text.specs.Put.{Put};
 ghost use Rattle.bench_say.specs.Say.{said};
-ghost use Rattle.bench_messages.specs.Refusals.{verdict-text, verdict-numbers, refusal-text};
-ghost use Rattle.bench_messages.specs.Places as places;
+ghost use Rattle.bench_replies.specs.Refusals.{verdict-text, verdict-numbers, refusal-text};
+ghost use Rattle.bench_replies.specs.Places as places;
 use bench_say::say::NUMBERS;
 use bench_say::say::say_one;
 use can::Rejection;

@@ -1,8 +1,8 @@
--- `bench_messages::refusals::verdict` meets its contract: the word is that of the reason.
-use Rattle.bench_messages.proofs.Tables.{word-of-found}
+-- `bench_replies::refusals::verdict` meets its contract: the word is that of the reason.
+use Rattle.bench_replies.proofs.Tables.{word-of-found}
 use borrow.Author.Needs.{needs}
-use Rattle.bench_messages.proofs.refusals.verdict.Statement.{statement}
-use Rattle.bench_messages.proofs.refusals.verdict.Tie as tie
+use Rattle.bench_replies.proofs.refusals.verdict.Statement.{statement}
+use Rattle.bench_replies.proofs.refusals.verdict.Tie as tie
 
 reason-requires : tie.Need-reason-requires
 reason-requires c κs = search needs

@@ -1,7 +1,7 @@
--- `bench_messages::answers::numbers` meets its contract: each case is that of the definition.
+-- `bench_replies::answers::numbers` meets its contract: each case is that of the definition.
 use borrow.Author.Needs.{needs}
-use Rattle.bench_messages.proofs.answers.numbers.Statement.{statement}
-use Rattle.bench_messages.proofs.answers.numbers.Tie as tie
+use Rattle.bench_replies.proofs.answers.numbers.Statement.{statement}
+use Rattle.bench_replies.proofs.answers.numbers.Tie as tie
 
 enum-told : tie.Need-enum-told
 enum-told c = search needs

@@ -1,0 +1,2 @@
+-- Each text is found in its table.
+pub mod Tables
