@@ -1,24 +1,24 @@
 -- What is written as text is read back: bytes as hex digits in pairs, and the digits of a number.
-use Prim.Native.Nat.{ℕ, zero, suc, _+_, _*_, _/_, _%_, _^_, _≤_, _<_}
-use native.Mathlib.Nat.{pow-zero, pow-suc, one-le-pow, mod-one, mod-lt, mod-eq-of-lt, lt-of-lt-of-le}
+use Prim.Native.Nat.{ℕ, zero, suc, _+_, _*_, _-_, _/_, _%_, _≤_, _<_, min, max}
+use native.Mathlib.Nat.{add-comm, mod-lt, mod-add-div', zero-div, div-lt-self, lt-of-lt-of-le}
 use native.Mathlib.Decide.{decLt}
 use native.Mathlib.Omega.{arith}
 use mathlib.Core.Path.{_≡_, refl, sym, ap, _∙_}
-use mathlib.Core.Bool.{true, not}
-use mathlib.Core.List.{List, [], _∷_}
+use mathlib.Core.Bool.{true, not, cond, _&&_}
+use mathlib.Core.List.{List, [], _∷_, _++_}
 use lib.ListN.{length, getD}
 use lib.Seq.{ext-getD}
-use lib.Arith.{mod-mul}
-use lib.Dec.{ltb}
+use lib.Dec.{eqb, ltb}
 use borrow.Author.Tests.{lt-ltb, le-ltb, le-leb, lt-leb, eq-eqb, ne-eqb}
-use Rattle.io.specs.Digits.{glyph, digits}
+use Rattle.io.specs.Digits.{glyph}
 use Rattle.rules.specs.Repeat.{rising, list-below}
 use Rattle.laws.proofs.Tests.{both}
 use Rattle.laws.proofs.Repeat.{facts-all, length-list-below, getD-list-below}
 use Rattle.bench_words.specs.declared.reading.Reading.the-variants.{Value}
 use Rattle.bench_words.specs.Reading.{digit, digit-at, all-digits, value, pair, pair-at, hex-pairs, byte-count-of}
 use Rattle.bench_words.proofs.Digits.{value-snoc}
-use Rattle.bench_text.specs.Put.{hex-of}
+use Rattle.bench_text.specs.Put.{hex-of, numeral-within, numeral, decimal, hexadecimal}
+use Rattle.bench_text.proofs.Writing.{due}
 
 -- A digit is written as a byte that reads as the digit.
 glyph-back : (d : ℕ) → d < 16 → digit (glyph d) ≡ d
@@ -97,14 +97,43 @@ count-back bs h some =
     let long = hex-length bs in
     rw (hex-digits bs h some, eq-eqb (length (hex-of bs) % 2) 0 (omega arith), hex-count bs)
 
--- The digits of a number in a base are read back: as many of the number's last digits as were written.
-pub digits-back : (base : ℕ) → 0 < base → base ≤ 16 → (k n : ℕ) → value base (digits base k n) ≡ n % base ^ k
-unfolding rising value
-digits-back base some most zero n = rw (pow-zero base, mod-one n)
-digits-back base some most (suc k) n =
-    rw (value-snoc base (digits base k (n / base)) (glyph (n % base)), digits-back base some most k (n / base), glyph-back (n % base) (lt-of-lt-of-le (mod-lt n some) most), pow-suc base k)
-    (sym (mod-mul n (one-le-pow k base some) some))
+-- A number is read back from its digits in a base, however many are asked for.
+module _ (base : ℕ) (some : 1 < base) (most : base ≤ 16) where
+  -- one digit more
+  snoc-back : (ds : List ℕ) (n : ℕ) → value base ds ≡ n / base → value base (ds ++ (glyph (n % base) ∷ [])) ≡ n
+  snoc-back ds n e =
+      rw (value-snoc base ds (glyph (n % base)), e, glyph-back (n % base) (lt-of-lt-of-le (mod-lt n (omega arith)) most))
+      (add-comm (n / base * base) (n % base) ∙ mod-add-div' n base)
 
--- A number in decimal, with digits enough, is read back.
-pub decimal-back : (k n : ℕ) → n < 10 ^ k → value 10 (digits 10 k n) ≡ n
-decimal-back k n h = digits-back 10 (omega arith) (omega arith) k n ∙ mod-eq-of-lt h
+  -- from the digits before the last one
+  module _ (k least n : ℕ) (back : n / base ≤ k → value base (numeral-within k base (least - 1) (n / base)) ≡ n / base) where
+    all : List ℕ
+    all = cond (eqb least 0 && eqb n 0) [] (numeral-within k base (least - 1) (n / base) ++ (glyph (n % base) ∷ []))
+
+    further : (least ≡ 0 → 0 < n) → n / base ≤ k → value base all ≡ n
+    unfolding all
+    further d l = rw (due least n d) (snoc-back (numeral-within k base (least - 1) (n / base)) n (back l))
+
+    at-zero : (m : ℕ) → least ≡ m → n ≡ 0 → value base all ≡ n
+    unfolding all value rising
+    at-zero zero e z = rw (eq-eqb least 0 e, eq-eqb n 0 z) (sym z)
+    at-zero (suc m) e z = further (λ o. absurd (omega arith)) (rw (z, zero-div base) (omega arith))
+
+    step : n ≤ suc k → Dec (0 < n) → value base all ≡ n
+    step h (yes l) = further (λ e. l) (omega (arith, div-lt-self l some))
+    step h (no l) = at-zero least refl (omega arith)
+
+  within-back : (k least n : ℕ) → n ≤ k → value base (numeral-within k base least n) ≡ n
+  unfolding numeral-within value rising all
+  within-back zero least n h = omega arith
+  within-back (suc k) least n h = step k least n (within-back k (least - 1) (n / base)) h (decLt 0 n)
+
+  pub numeral-back : (least n : ℕ) → value base (numeral base least n) ≡ n
+  numeral-back least n = within-back (least + n) least n (omega arith)
+
+-- So are a number in decimal and one in hexadecimal.
+pub decimal-back : (n : ℕ) → value 10 (decimal n) ≡ n
+decimal-back n = numeral-back 10 (omega arith) (omega arith) 1 n
+
+pub hexadecimal-back : (width n : ℕ) → value 16 (hexadecimal width n) ≡ n
+hexadecimal-back width n = numeral-back 16 (omega arith) (omega arith) (min (max width 1) 16) n

@@ -126,7 +126,7 @@ lt-pow base h (suc k) =
     rw (pow-suc base k) (omega (arith, lt-pow base h k, more))
 
 -- a further digit is due
-due : (least n : ℕ) → (least ≡ 0 → 0 < n) → (eqb least 0 && eqb n 0) ≡ false
+pub due : (least n : ℕ) → (least ≡ 0 → 0 < n) → (eqb least 0 && eqb n 0) ≡ false
 due zero n h = ne-eqb n 0 (λ e. let l = h refl in omega arith)
 due (suc least) n h = rw (ne-eqb (suc least) 0 (λ e. omega arith))
 
