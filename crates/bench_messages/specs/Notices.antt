@@ -1,8 +1,8 @@
 -- Notifications in words.
 use Prim.Native.Nat.{ℕ}
 use mathlib.Core.Bool.{Bool, cond}
-use lib.Dec.{eqb}
 use mathlib.Core.List.{List}
+use lib.Dec.{eqb}
 use Rattle.bench_say.specs.Say.{said, five}
 
 -- the kinds of a notification that closes a write; 01: confirmed 1, cancelled 7
@@ -23,8 +23,7 @@ error number =
     (cond (eqb number 4) "development error %0 CAN_E_PARAM_CONTROLLER"
     (cond (eqb number 5) "development error %0 CAN_E_UNINIT"
     (cond (eqb number 6) "development error %0 CAN_E_TRANSITION"
-    (cond (eqb number 9) "development error %0 CAN_E_INIT_FAILED"
-    ("development error %0 ?")))))))
+    (cond (eqb number 9) "development error %0 CAN_E_INIT_FAILED" "development error %0 ?"))))))
     (five number 0 0 0 0)
 
 -- AUTOSAR's name of a service
@@ -35,8 +34,7 @@ service number =
     (cond (eqb number 3) " of SetControllerMode\n"
     (cond (eqb number 6) " of Write\n"
     (cond (eqb number 16) " of DeInit\n"
-    (cond (eqb number 18) " of GetControllerMode\n"
-    (" of another service\n"))))))
+    (cond (eqb number 18) " of GetControllerMode\n" " of another service\n")))))
     (five 0 0 0 0 0)
 
 -- any other kind, at a controller or an object: a mode 3, a bus-off 4, lost data 6

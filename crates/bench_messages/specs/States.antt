@@ -1,8 +1,8 @@
 -- The driver state in words.
 use Prim.Native.Nat.{ℕ}
 use mathlib.Core.Bool.{Bool, cond}
-use lib.Dec.{eqb}
 use mathlib.Core.List.{List}
+use lib.Dec.{eqb}
 use Rattle.bench_say.specs.Say.{said, five}
 
 -- whether the driver is initialised, and how much is configured

@@ -2,9 +2,9 @@
 use Prim.Native.Nat.{ℕ}
 use Prim.Native.String.{String}
 use mathlib.Core.Bool.{Bool, cond}
+use mathlib.Core.List.{List, [], _∷_}
 use lib.Dec.{ltb}
 use lib.ListN.{getD}
-use mathlib.Core.List.{List, [], _∷_}
 use Rattle.bench_say.specs.Say.{said, five}
 
 -- the rows of the table, in its order

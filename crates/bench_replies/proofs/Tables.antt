@@ -18,7 +18,7 @@ use Rattle.can_calls.specs.declared.answer.Answer.the-variants as answers
 use Rattle.bench_replies.specs.Calls.{call-text}
 use Rattle.bench_replies.specs.Answers.{answer-text}
 use Rattle.bench_replies.specs.Refusals as refusals
-use Rattle.bench_replies.specs.Places.{call-place, polled-place, verdict-place, answer-place, word-place, other-place, transition-place, data-place, wire-place, refusal-place}
+use Rattle.bench_replies.specs.Places.{call-place, polled-place, verdict-place, answer-place, other-place, transition-place, data-place, wire-place, refusal-place}
 
 pub call-found : (x : Function) → piece (call-place x) (joined (call-text functions.Init ∷ call-text functions.DeInit ∷ call-text functions.Set ∷ call-text functions.Get ∷ call-text functions.Write ∷ call-text functions.PollWrite ∷ call-text functions.PollRead ∷ call-text functions.PollMode ∷ call-text functions.PollBusOff ∷ call-text functions.Sent ∷ call-text functions.BusOff ∷ call-text functions.Arrived ∷ [])) ≡ ascii (call-text x)
 unfolding piece-start leading
@@ -63,26 +63,8 @@ answer-found (answers.Stored h) f told = refl
 answer-found answers.Unwanted f told = refl
 answer-found answers.Lost f told = refl
 
-pub word-of-found : (x : Rejection) → piece (word-place x) (joined ("rejected %0: " ∷ "busy %0: " ∷ [])) ≡ ascii (refusals.verdict-text x)
-unfolding piece-start leading
-word-of-found rejections.ParamHandle = refl
-word-of-found rejections.ParamDataLength = refl
-word-of-found rejections.ParamController = refl
-word-of-found rejections.Uninit = refl
-word-of-found rejections.Transition = refl
-word-of-found rejections.InitFailed = refl
-word-of-found rejections.SheetTooShort = refl
-word-of-found rejections.WrongRamSize = refl
-word-of-found rejections.BadIdentifier = refl
-word-of-found rejections.NotStarted = refl
-word-of-found rejections.ObjectBusy = refl
-word-of-found rejections.BusOff = refl
-word-of-found rejections.NothingToSend = refl
-word-of-found rejections.BadLength = refl
-word-of-found rejections.InvalidState = refl
-
 abbrev refusal-texts : List ℕ
-refusal-texts = joined ("object %0 is no configured sending object" ∷ "controller %0 is not configured" ∷ "the driver is not initialised" ∷ "the driver is initialised already" ∷ "controller %0 cannot go from %m to %m" ∷ "a controller is STARTED" ∷ "%b, and a classic frame holds at most 8" ∷ "%b, and an FD frame holds at most 64" ∷ "%b as an FD frame, and the object's payload is 8" ∷ "no FD frame on the wire has %b" ∷ "no classic frame on the wire has %b" ∷ "the sheet has %w, and a call needs %0" ∷ "the memory has %b, and the chip's has %0" ∷ "id %i is not a valid identifier" ∷ "controller %0 is not STARTED" ∷ "object %0 holds the frame of line %0" ∷ "controller %0 is off the bus" ∷ "object %0 holds no frame that waits to be sent" ∷ "the driver state is not valid" ∷ [])
+refusal-texts = joined ("object %0 is no configured sending object" ∷ "controller %0 is not configured" ∷ "the driver is not initialised" ∷ "the driver is initialised already" ∷ "controller %0 cannot go from %m to %m" ∷ "a controller is STARTED" ∷ "%b, and a classic frame holds at most 8" ∷ "%b, and an FD frame holds at most 64" ∷ "%b as an FD frame, and the object's payload is 8" ∷ "no FD frame on the wire has %b" ∷ "no classic frame on the wire has %b" ∷ "the sheet has %w, and a call needs %0" ∷ "the memory has %b, and the chip's has %0" ∷ "id %i is not a valid identifier" ∷ "controller %0 is not STARTED" ∷ "object %0 holds the frame of line %0" ∷ "controller %0 is off the bus" ∷ "object %0 holds no frame that waits to be sent" ∷ "the driver state is not valid" ∷ "the configuration is not valid" ∷ [])
 
 transition-found : (f : Function) (b : Bool) → piece (transition-place f (other-place b)) refusal-texts ≡ ascii (refusals.transition-text f b)
 unfolding piece-start leading

@@ -49,23 +49,6 @@ answer-place (Stored h) verdict = 6
 answer-place Unwanted verdict = 7
 answer-place Lost verdict = 8
 
-abbrev pub word-place : Rejection → ℕ
-word-place rejections.ParamHandle = 0
-word-place rejections.ParamDataLength = 0
-word-place rejections.ParamController = 0
-word-place rejections.Uninit = 0
-word-place rejections.Transition = 0
-word-place rejections.InitFailed = 0
-word-place rejections.SheetTooShort = 0
-word-place rejections.WrongRamSize = 0
-word-place rejections.BadIdentifier = 0
-word-place rejections.NotStarted = 0
-word-place rejections.ObjectBusy = 1
-word-place rejections.BusOff = 0
-word-place rejections.NothingToSend = 0
-word-place rejections.BadLength = 0
-word-place rejections.InvalidState = 0
-
 abbrev pub other-place : Bool → ℕ
 other-place initialised = cond initialised 5 2
 
@@ -95,7 +78,7 @@ refusal-place rejections.ParamDataLength transition fit wire = fit
 refusal-place rejections.ParamController transition fit wire = 1
 refusal-place rejections.Uninit transition fit wire = 2
 refusal-place rejections.Transition transition fit wire = transition
-refusal-place rejections.InitFailed transition fit wire = 18
+refusal-place rejections.InitFailed transition fit wire = 19
 refusal-place rejections.SheetTooShort transition fit wire = 11
 refusal-place rejections.WrongRamSize transition fit wire = 12
 refusal-place rejections.BadIdentifier transition fit wire = 13

@@ -3,50 +3,36 @@ use Prim.Native.Nat.{ℕ}
 use Prim.Native.String.{String}
 use mathlib.Core.Bool.{Bool, cond}
 use mathlib.Core.List.{List}
-use lib.Dec.{ltb}
+use lib.Dec.{eqb, ltb}
 use Rattle.rules.specs.Can.{is-fd, longest-fd}
 use Rattle.core_answers.specs.Answer.{reason-of}
 use Rattle.core_answers.specs.declared.rejection.Rejection.{Rejection}
 use Rattle.core_answers.specs.declared.rejection.Rejection.the-variants.{ParamHandle, ParamDataLength, ParamController, Uninit, Transition, InitFailed, SheetTooShort, WrongRamSize, BadIdentifier, NotStarted, ObjectBusy, BusOff, NothingToSend, BadLength, InvalidState}
 use Rattle.can_calls.specs.declared.request.Function.{Function}
 use Rattle.can_calls.specs.declared.request.Function.the-variants as functions
-use Rattle.bench_say.specs.Say.{five}
+use Rattle.bench_say.specs.Say.{said, five}
 
--- the verdict, with the reason's number: CAN_BUSY is its own word
-abbrev pub verdict-text : Rejection → String
-verdict-text ParamHandle = "rejected %0: "
-verdict-text ParamDataLength = "rejected %0: "
-verdict-text ParamController = "rejected %0: "
-verdict-text Uninit = "rejected %0: "
-verdict-text Transition = "rejected %0: "
-verdict-text InitFailed = "rejected %0: "
-verdict-text SheetTooShort = "rejected %0: "
-verdict-text WrongRamSize = "rejected %0: "
-verdict-text BadIdentifier = "rejected %0: "
-verdict-text NotStarted = "rejected %0: "
-verdict-text ObjectBusy = "busy %0: "
-verdict-text BusOff = "rejected %0: "
-verdict-text NothingToSend = "rejected %0: "
-verdict-text BadLength = "rejected %0: "
-verdict-text InvalidState = "rejected %0: "
+-- the verdict, with the reason's number: CAN_BUSY, the reason 36, is its own word
+abbrev pub verdict : Rejection → List ℕ
+verdict reason = said (cond (eqb (reason-of reason) 36) "busy %0: " "rejected %0: ") (five (reason-of reason) 0 0 0 0)
 
-abbrev pub verdict-numbers : Rejection → List ℕ
-verdict-numbers reason = five (reason-of reason) 0 0 0 0
+-- 6: a service that cannot go there from here. Of the calls that are not named here DeInit alone has this reason
+abbrev pub other-text : Bool → String
+other-text initialised = cond initialised "a controller is STARTED" "the driver is not initialised"
 
--- 6: a service that cannot go there from here
 abbrev pub transition-text : Function → Bool → String
 transition-text functions.Init initialised = "the driver is initialised already"
-transition-text functions.DeInit initialised = cond initialised "a controller is STARTED" "the driver is not initialised"
+transition-text functions.DeInit initialised = other-text initialised
 transition-text functions.Set initialised = "controller %0 cannot go from %m to %m"
-transition-text functions.Get initialised = cond initialised "a controller is STARTED" "the driver is not initialised"
-transition-text functions.Write initialised = cond initialised "a controller is STARTED" "the driver is not initialised"
-transition-text functions.PollWrite initialised = cond initialised "a controller is STARTED" "the driver is not initialised"
-transition-text functions.PollRead initialised = cond initialised "a controller is STARTED" "the driver is not initialised"
-transition-text functions.PollMode initialised = cond initialised "a controller is STARTED" "the driver is not initialised"
-transition-text functions.PollBusOff initialised = cond initialised "a controller is STARTED" "the driver is not initialised"
-transition-text functions.Sent initialised = cond initialised "a controller is STARTED" "the driver is not initialised"
-transition-text functions.BusOff initialised = cond initialised "a controller is STARTED" "the driver is not initialised"
-transition-text functions.Arrived initialised = cond initialised "a controller is STARTED" "the driver is not initialised"
+transition-text functions.Get initialised = other-text initialised
+transition-text functions.Write initialised = other-text initialised
+transition-text functions.PollWrite initialised = other-text initialised
+transition-text functions.PollRead initialised = other-text initialised
+transition-text functions.PollMode initialised = other-text initialised
+transition-text functions.PollBusOff initialised = other-text initialised
+transition-text functions.Sent initialised = other-text initialised
+transition-text functions.BusOff initialised = other-text initialised
+transition-text functions.Arrived initialised = other-text initialised
 
 -- 3: data that does not fit the format or the object
 abbrev pub data-text : ℕ → ℕ → String
@@ -64,7 +50,7 @@ refusal-text ParamDataLength function identifier length initialised = data-text 
 refusal-text ParamController function identifier length initialised = "controller %0 is not configured"
 refusal-text Uninit function identifier length initialised = "the driver is not initialised"
 refusal-text Transition function identifier length initialised = transition-text function initialised
-refusal-text InitFailed function identifier length initialised = "the driver state is not valid"
+refusal-text InitFailed function identifier length initialised = "the configuration is not valid"
 refusal-text SheetTooShort function identifier length initialised = "the sheet has %w, and a call needs %0"
 refusal-text WrongRamSize function identifier length initialised = "the memory has %b, and the chip's has %0"
 refusal-text BadIdentifier function identifier length initialised = "id %i is not a valid identifier"

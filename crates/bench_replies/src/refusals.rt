@@ -2,45 +2,28 @@
 ghost use mathlib.Core.Path.{_≡_};
 ghost use Rattle.bench_text.specs.Put.{Put};
 ghost use Rattle.bench_say.specs.Say.{said};
-ghost use Rattle.bench_replies.specs.Refusals.{verdict-text, verdict-numbers, refusal-text};
+ghost use Rattle.bench_replies.specs.Refusals.{verdict, refusal-text};
 ghost use Rattle.bench_replies.specs.Places as places;
 use bench_say::say::NUMBERS;
+use bench_say::say::say;
 use bench_say::say::say_one;
 use can::Rejection;
 use can_calls::request::Function;
 use can_frame::identifier::is_fd;
 use can_frame::length::LONGEST_FD;
 
-// CAN_BUSY is its own word.
-fn word_place(reason: Rejection) -> usize
-    ensures { λ r. ⌜ r ≡ places.word-place reason ⌝ }
-{
-    match reason {
-        Rejection::ParamHandle => 0,
-        Rejection::ParamDataLength => 0,
-        Rejection::ParamController => 0,
-        Rejection::Uninit => 0,
-        Rejection::Transition => 0,
-        Rejection::InitFailed => 0,
-        Rejection::SheetTooShort => 0,
-        Rejection::WrongRamSize => 0,
-        Rejection::BadIdentifier => 0,
-        Rejection::NotStarted => 0,
-        Rejection::ObjectBusy => 1,
-        Rejection::BusOff => 0,
-        Rejection::NothingToSend => 0,
-        Rejection::BadLength => 0,
-        Rejection::InvalidState => 0,
-    }
-}
+// CAN_BUSY's reason.
+const BUSY: u64 = 36;
 
 // `rejected 35: `, `busy 36: `
 pub fn verdict(out: &mut [u8], at: usize, reason: Rejection) -> usize
-    ensures { λ r. ⌜ Put at (said (verdict-text reason) (verdict-numbers reason)) (now (out .entry)) (now (out .exit)) r ⌝ }
+    ensures { λ r. ⌜ Put at (verdict reason) (now (out .entry)) (now (out .exit)) r ⌝ }
 {
     let number = can::reason(reason) as u64;
-    let texts = b"rejected %0: |busy %0: ";
-    say_one(out, at, texts, word_place(reason), [number, 0, 0, 0, 0])
+    if number == BUSY {
+        return say(out, at, b"busy %0: ", [number, 0, 0, 0, 0]);
+    }
+    say(out, at, b"rejected %0: ", [number, 0, 0, 0, 0])
 }
 
 // 6: a service that cannot go there from here.
@@ -98,7 +81,7 @@ fn place(reason: Rejection, transition: usize, fit: usize, wire: usize) -> usize
         Rejection::ParamController => 1,
         Rejection::Uninit => 2,
         Rejection::Transition => transition,
-        Rejection::InitFailed => 18,
+        Rejection::InitFailed => 19,
         Rejection::SheetTooShort => 11,
         Rejection::WrongRamSize => 12,
         Rejection::BadIdentifier => 13,
@@ -142,7 +125,8 @@ pub fn refusal(
         object %0 holds the frame of line %0|\
         controller %0 is off the bus|\
         object %0 holds no frame that waits to be sent|\
-        the driver state is not valid";
+        the driver state is not valid|\
+        the configuration is not valid";
     let transition = transition_place(function, other_place(initialised));
     let fit = data_place(identifier, length);
     let wire = wire_place(identifier);
