@@ -9,6 +9,7 @@ use crate::report;
 use bench_draft::draft;
 use bench_lines::count::of_bytes;
 use bench_lines::reader::will_read;
+use bench_messages::reports;
 use bench_plain::book;
 use bench_plain::night;
 use bench_plain::night::CANCELLED_AT;
@@ -19,8 +20,6 @@ use bench_plain::night::OUTPUT;
 use bench_plain::night::TAKEN_AT;
 use bench_plain::summary;
 use bench_plain::waiting;
-use bench_say::say::say;
-use bench_say::say::two;
 use bench_script::command::LARGEST_MEMORY;
 use bench_script::command::LARGEST_SHEET;
 use bench_words::bytes::LONGEST_LINE;
@@ -228,7 +227,7 @@ fn cancelled_listed(desk: Desk, out: &mut [u8]) -> Desk {
 // `end LINES BAD`: lines read, and lines not understood.
 fn counted(desk: Desk, lines: u64, out: &mut [u8]) -> Desk {
     let mut last = desk;
-    last.at = say(out, desk.at, b"end %0 %0\n", two(lines, desk.unreadable));
+    last.at = reports::ended(out, desk.at, lines, desk.unreadable);
     written(last, out)
 }
 
@@ -252,7 +251,7 @@ fn finished(night: Night, lines: u64, ram: &[u8], out: &mut [u8], book: &[u64]) 
 // Says on standard error what went wrong: the output, or lines that were not understood.
 fn judged(desk: Desk, lines: u64) {
     if desk.stuck {
-        report::stopped(b"standard output cannot be written", lines);
+        report::unwritten(lines);
         return;
     }
     report::misunderstood(desk, lines);
@@ -286,7 +285,7 @@ fn ended(playing: Playing, memory: &[u8], out: &mut [u8; OUT_ROOM], book: &mut [
     if reader.failed {
         let desk = night.desk;
         written(desk, out);
-        report::stopped(b"standard input cannot be read", heard.lines);
+        report::unread(heard.lines);
         return;
     }
     closed(night, heard.lines, memory, out, book);

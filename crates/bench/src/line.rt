@@ -1,7 +1,4 @@
 // One line of a night.
-use crate::tell;
-use crate::tell::Poll;
-use crate::tell::Told;
 use crate::terse;
 use bench_draft::draft::ROOM;
 use bench_draft::draft::add_receiving;
@@ -11,151 +8,28 @@ use bench_draft::draft::objects;
 use bench_draft::draft::size;
 use bench_lines::count::of_bytes;
 use bench_lines::count::of_words;
-use bench_plain::book;
-use bench_plain::book::count;
-use bench_plain::book::count_dropped;
-use bench_plain::book::owner;
-use bench_plain::book::set_controllers;
-use bench_plain::book::set_origin;
-use bench_plain::book::set_sent;
+use bench_messages::lines;
 use bench_plain::draft;
 use bench_plain::night::Desk;
 use bench_plain::night::Night;
 use bench_plain::night::more;
 use bench_plain::object::bytes;
 use bench_plain::plain;
+use bench_plain::tell::Told;
+use bench_plain::told::in_words;
 use bench_requests::request::Asks;
 use bench_requests::request::Wanted;
 use bench_requests::request::init;
 use bench_requests::request::request_of;
-use bench_say::say::say;
-use bench_say::say::two;
 use bench_script::command::Command;
 use bench_script::name::name_of;
 use bench_words::bytes::MOST_BYTES;
 use bench_words::reading::Trouble;
 use bench_words::split::word;
 use can::State;
-use can::Verdict;
-use can_calls::answer::Answer;
 use can_calls::perform::Played;
 use can_calls::perform::perform;
-use can_calls::request::Function;
 use can_calls::request::Request;
-use can_calls::request::is_bus_off_poll;
-
-// An accepted write in the book: whose it is, and its line.
-fn note_written(book: &mut [u64], state: State, object: u32, line: u64) {
-    set_origin(book, object, line);
-    count(book, owner(state, object), book::WRITTEN);
-}
-
-// An accepted arrival, and what became of it.
-fn note_arrived(book: &mut [u64], controller: u32, fate: usize) {
-    let c = controller as usize;
-    count(book, c, book::ARRIVED);
-    count(book, c, fate);
-}
-
-// A stored arrival: its frame is counted when somebody reads it, or at the end.
-fn note_stored(book: &mut [u64], controller: u32, object: u32, line: u64) {
-    set_origin(book, object, line);
-    count(book, controller as usize, book::ARRIVED);
-}
-
-// What a call answers, in the book.
-fn note_answer(book: &mut [u64], state: State, request: Request, answer: Answer, line: u64) {
-    match answer {
-        Answer::TakenBy(h) => note_written(book, state, h, line),
-        Answer::Stored(h) => note_stored(book, request.controller, h, line),
-        Answer::Lost => note_arrived(book, request.controller, book::LOST),
-        Answer::Unwanted => note_arrived(book, request.controller, book::UNWANTED),
-        _ => {}
-    }
-}
-
-// A DeInit that is accepted drops all frames that nobody has read. One that is refused leaves the driver initialised.
-fn note_dropped(book: &mut [u64], before: State, initialised: bool) {
-    if initialised {
-        return;
-    }
-    count_dropped(book, before);
-}
-
-fn is_accepted(verdict: Verdict) -> bool {
-    match verdict {
-        Verdict::Accepted => true,
-        Verdict::Rejected(_) => false,
-    }
-}
-
-// A sent event that is accepted.
-fn note_sent(book: &mut [u64], object: u32, line: u64, accepted: bool) {
-    if !accepted {
-        return;
-    }
-    set_sent(book, object, line);
-}
-
-// A sent event, an Init and a DeInit.
-fn note_call(
-    book: &mut [u64],
-    before: State,
-    next: State,
-    request: Request,
-    line: u64,
-    accepted: bool,
-) {
-    let function = request.function;
-    match function {
-        Function::Sent => note_sent(book, request.object, line, accepted),
-        Function::Init => set_controllers(book, next.controller_count as u64),
-        Function::DeInit => note_dropped(book, before, next.initialised),
-        _ => {}
-    }
-}
-
-// The call and its notifications in words; bytes are those that it was given.
-fn in_words(
-    state: State,
-    desk: Desk,
-    wanted: Wanted,
-    bytes: &[u8],
-    played: Played,
-    ram: &[u8],
-    sheet: &[u32],
-    out: &mut [u8],
-    book: &mut [u64],
-) -> Told {
-    let request = wanted.request;
-    let at = plain::call(
-        out,
-        desk.at,
-        state,
-        desk,
-        book,
-        request,
-        wanted.length,
-        bytes,
-        played,
-    );
-    let next = played.state;
-    let answer = played.answer;
-    let verdict = played.verdict;
-    note_call(book, state, next, request, desk.line, is_accepted(verdict));
-    note_answer(book, state, request, answer, desk.line);
-    let lists = desk.lists;
-    let start = Told {
-        at: at,
-        lists: lists,
-    };
-    let poll = Poll {
-        state: state,
-        line: desk.line,
-        by_bus_off: is_bus_off_poll(request),
-    };
-    tell::all(start, out, book, ram, poll, sheet, played.notifications)
-}
 
 // The call as one line of words.
 fn in_numbers(desk: Desk, request: Request, played: Played, sheet: &[u32], out: &mut [u8]) -> Told {
@@ -211,12 +85,24 @@ fn told(
     out: &mut [u8],
     book: &mut [u64],
 ) -> Told {
+    let request = wanted.request;
     if desk.plain {
         let lent = of_bytes(desk.memory, memory);
         let ram = &memory[..lent];
-        return in_words(state, desk, wanted, bytes, played, ram, sheet, out, book);
+        let length = wanted.length;
+        return in_words(
+            state,
+            desk,
+            request,
+            length,
+            bytes,
+            played,
+            ram,
+            sheet,
+            out,
+            book,
+        );
     }
-    let request = wanted.request;
     in_numbers(desk, request, played, sheet, out)
 }
 
@@ -320,9 +206,30 @@ fn state_told(state: State, desk: Desk, out: &mut [u8]) -> usize {
 }
 
 // What changes the bench alone is told in plain words only.
-fn noted(desk: Desk, text: &[u8], n: u64, out: &mut [u8]) -> usize {
+fn sheet_told(desk: Desk, words: u32, out: &mut [u8]) -> usize {
     if desk.plain {
-        return say(out, desk.at, text, two(desk.line, n));
+        return lines::sheet(out, desk.at, desk.line, words as u64);
+    }
+    desk.at
+}
+
+fn memory_told(desk: Desk, bytes: u32, out: &mut [u8]) -> usize {
+    if desk.plain {
+        return lines::memory(out, desk.at, desk.line, bytes as u64);
+    }
+    desk.at
+}
+
+fn object_told(desk: Desk, number: u8, out: &mut [u8]) -> usize {
+    if desk.plain {
+        return lines::next_object(out, desk.at, desk.line, number as u64);
+    }
+    desk.at
+}
+
+fn controllers_told(desk: Desk, count: u32, out: &mut [u8]) -> usize {
+    if desk.plain {
+        return lines::next_controllers(out, desk.at, desk.line, count as u64);
     }
     desk.at
 }
@@ -354,19 +261,14 @@ fn object_added(desk: Desk, added: bool, number: u8, line: &[u8], out: &mut [u8]
         return next;
     }
     let mut next = desk;
-    next.at = noted(
-        desk,
-        b"%6  object %0 of the next init\n",
-        number as u64,
-        out,
-    );
+    next.at = object_told(desk, number, out);
     next
 }
 
 fn controllers(desk: Desk, count: u32, draft: &mut [u8; ROOM], out: &mut [u8]) -> Desk {
     begin(draft, count);
     let mut next = desk;
-    next.at = noted(desk, b"%6  %c in the next init\n", count as u64, out);
+    next.at = controllers_told(desk, count, out);
     next
 }
 
@@ -407,18 +309,8 @@ fn asked(desk: Desk, command: Command, line: &[u8], memory: &[u8], out: &mut [u8
     match command {
         Command::Data { object } => data(desk, object, memory, out),
         Command::Show { object } => show(desk, object, memory, out),
-        Command::Sheet { words } => noted(
-            desk,
-            b"%6  sheet of %w from here on\n",
-            words as u64,
-            out,
-        ),
-        Command::Memory { bytes } => noted(
-            desk,
-            b"%6  memory of %b from here on\n",
-            bytes as u64,
-            out,
-        ),
+        Command::Sheet { words } => sheet_told(desk, words, out),
+        Command::Memory { bytes } => memory_told(desk, bytes, out),
         Command::Unreadable(trouble) => unreadable(desk, trouble, line, out),
         _ => desk.at,
     }

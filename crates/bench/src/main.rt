@@ -6,7 +6,6 @@ mod input;
 mod line;
 mod report;
 mod style;
-mod tell;
 mod terse;
 
 use libc::STDERR_FILENO;

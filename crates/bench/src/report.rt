@@ -1,10 +1,7 @@
-// What goes wrong with a whole night, in one line on standard error. `play` reads these lines, too.
+// What goes wrong with a whole night, in one line on standard error.
 use bench_lines::count::of_bytes;
+use bench_messages::reports;
 use bench_plain::night::Desk;
-use bench_say::say::one;
-use bench_say::say::say;
-use bench_say::say::three;
-use bench_text::put::put;
 use libc::STDERR_FILENO;
 
 const ROOM: usize = 256;
@@ -15,17 +12,16 @@ fn said(text: &[u8], end: usize) {
     io::write_all(STDERR_FILENO, &text[..count]);
 }
 
-// The night was stopped, since a file could not be read or written.
-pub fn stopped(trouble: &[u8], lines: u64) {
+// The night was stopped, since its output could not be written, or its script not read.
+pub fn unwritten(lines: u64) {
     let mut text = [0u8; ROOM];
-    let mut end = put(&mut text, 0, b"bench: ");
-    end = put(&mut text, end, trouble);
-    end = say(
-        &mut text,
-        end,
-        b"; the night was stopped at line %0\n",
-        one(lines),
-    );
+    let end = reports::unwritten(&mut text, 0, lines);
+    said(&text, end);
+}
+
+pub fn unread(lines: u64) {
+    let mut text = [0u8; ROOM];
+    let end = reports::unread(&mut text, 0, lines);
     said(&text, end);
 }
 
@@ -35,11 +31,6 @@ pub fn misunderstood(desk: Desk, lines: u64) {
         return;
     }
     let mut text = [0u8; ROOM];
-    let end = say(
-        &mut text,
-        0,
-        b"bench: %0 of %0 lines not understood, first at line %0\n",
-        three(desk.unreadable, lines, desk.first_unreadable),
-    );
+    let end = reports::not_understood(&mut text, 0, desk.unreadable, lines, desk.first_unreadable);
     said(&text, end);
 }

@@ -6,4 +6,5 @@ pub mod Frames
 pub mod States
 pub mod Totals
 pub mod Lines
+pub mod Reports
 pub mod Places

@@ -33,3 +33,16 @@ order-mark = said " (a byte order mark?)" (five 0 0 0 0 0)
 
 abbrev pub lone-cr : List ℕ
 lone-cr = said " (lines that end in CR alone?)" (five 0 0 0 0 0)
+
+-- what changes the bench alone: the configuration in words, the sheet and the memory that are lent
+abbrev pub next-controllers : ℕ → ℕ → List ℕ
+next-controllers line n = said "%6  %c in the next init\n" (five line n 0 0 0)
+
+abbrev pub next-object : ℕ → ℕ → List ℕ
+next-object line object = said "%6  object %0 of the next init\n" (five line object 0 0 0)
+
+abbrev pub sheet : ℕ → ℕ → List ℕ
+sheet line words = said "%6  sheet of %w from here on\n" (five line words 0 0 0)
+
+abbrev pub memory : ℕ → ℕ → List ℕ
+memory line bytes = said "%6  memory of %b from here on\n" (five line bytes 0 0 0)

@@ -3,6 +3,8 @@ pub mod faults;
 pub mod frames;
 pub mod lines;
 pub mod notices;
+pub mod reports;
 pub mod states;
 pub mod totals;
 pub mod troubles;
+// .

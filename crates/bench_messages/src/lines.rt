@@ -60,3 +60,43 @@ pub fn lone_cr(out: &mut [u8], at: usize) -> usize
 {
     say(out, at, b" (lines that end in CR alone?)", [0, 0, 0, 0, 0])
 }
+
+// What changes the bench alone: the configuration in words, the sheet and the memory that are lent.
+pub fn next_controllers(out: &mut [u8], at: usize, line: u64, n: u64) -> usize
+    ensures { λ r. ⌜ Put at (lines.next-controllers line n) (now (out .entry)) (now (out .exit)) r ⌝ }
+{
+    say(out, at, b"%6  %c in the next init\n", [line, n, 0, 0, 0])
+}
+
+pub fn next_object(out: &mut [u8], at: usize, line: u64, object: u64) -> usize
+    ensures { λ r. ⌜ Put at (lines.next-object line object) (now (out .entry)) (now (out .exit)) r ⌝ }
+{
+    say(
+        out,
+        at,
+        b"%6  object %0 of the next init\n",
+        [line, object, 0, 0, 0],
+    )
+}
+
+pub fn sheet(out: &mut [u8], at: usize, line: u64, words: u64) -> usize
+    ensures { λ r. ⌜ Put at (lines.sheet line words) (now (out .entry)) (now (out .exit)) r ⌝ }
+{
+    say(
+        out,
+        at,
+        b"%6  sheet of %w from here on\n",
+        [line, words, 0, 0, 0],
+    )
+}
+
+pub fn memory(out: &mut [u8], at: usize, line: u64, bytes: u64) -> usize
+    ensures { λ r. ⌜ Put at (lines.memory line bytes) (now (out .entry)) (now (out .exit)) r ⌝ }
+{
+    say(
+        out,
+        at,
+        b"%6  memory of %b from here on\n",
+        [line, bytes, 0, 0, 0],
+    )
+}

@@ -1,15 +1,15 @@
 // The notifications of a call, one after the other.
-use bench_plain::book;
-use bench_plain::book::count;
-use bench_plain::book::owner;
-use bench_plain::listed;
-use bench_plain::night::Lists;
-use bench_plain::notifications;
-use bench_plain::notifications::CANCELLED;
-use bench_plain::notifications::CONFIRMED;
-use bench_plain::notifications::Notification;
-use bench_plain::notifications::RECEIVED;
-use bench_plain::notifications::notification_at;
+use crate::book;
+use crate::book::count;
+use crate::book::owner;
+use crate::listed;
+use crate::night::Lists;
+use crate::notifications;
+use crate::notifications::CANCELLED;
+use crate::notifications::CONFIRMED;
+use crate::notifications::Notification;
+use crate::notifications::RECEIVED;
+use crate::notifications::notification_at;
 use can::State;
 
 // How far the output and the lists are filled.

@@ -1,10 +1,10 @@
--- `bench::tell::all` meets its contract: it is safe and ends.
+-- `bench_plain::tell::all` meets its contract: it is safe and ends.
 use borrow.Author.Needs.{needs}
 use Prim.Native.Nat.{_≤_, _-_}
 use mathlib.Core.Path.{_≡_}
 use lib.ListN.{length}
-use Rattle.bench.proofs.tell.all.Statement.{statement}
-use Rattle.bench.proofs.tell.all.Tie as tie
+use Rattle.bench_plain.proofs.tell.all.Statement.{statement}
+use Rattle.bench_plain.proofs.tell.all.Tie as tie
 
 abbrev Inv-loop : tie.InvT-loop
 Inv-loop out₀ book₀ ram poll sheet count told₀ i₀ out book told i = (i ≤ count) × (length out ≡ length out₀) × (length book ≡ length book₀)
