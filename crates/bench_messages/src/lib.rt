@@ -7,4 +7,3 @@ pub mod reports;
 pub mod states;
 pub mod totals;
 pub mod troubles;
-// .
