@@ -1,6 +1,9 @@
 -- How a line of the plain style begins, and what stands between its parts.
 use Prim.Native.Nat.{ℕ}
-use mathlib.Core.List.{List}
+use mathlib.Core.Bool.{Bool, cond}
+use mathlib.Core.List.{List, _++_}
+use Rattle.bench_words.specs.Text.{ascii}
+use Rattle.bench_say.specs.Form.{hex-or-none}
 use Rattle.bench_say.specs.Say.{said, five}
 
 -- the number of a line
@@ -26,6 +29,10 @@ not-understood line = said "%6  not understood: " (five line 0 0 0 0)
 
 abbrev pub but-expected : List ℕ
 but-expected = said "; expected " (five 0 0 0 0 0)
+
+-- a word in quotation marks; its bytes in hexadecimal where they cannot be shown
+abbrev pub quoted : List ℕ → Bool → List ℕ
+quoted word printable = cond printable ((ascii " \"" ++ word) ++ ascii "\"") (ascii ", bytes " ++ hex-or-none word)
 
 -- what may have been meant by a line that begins with a byte order mark, or has a CR
 abbrev pub order-mark : List ℕ

@@ -1,7 +1,9 @@
 // Frames in words.
 ghost use Rattle.bench_text.specs.Put.{Put};
 ghost use Rattle.bench_messages.specs.Frames as frames;
+use bench_say::form::hex_or_none;
 use bench_say::say::say;
+use bench_text::put::put;
 
 // The frame of a sending object, and the line that wrote it.
 pub fn written(
@@ -70,4 +72,13 @@ pub fn head(out: &mut [u8], at: usize, identifier: u64, wire: u64, dlc: u64, han
 {
     let text = b"          identifier word %H, wire length %0, DLC %0, handle %0\n          data ";
     say(out, at, text, [identifier, wire, dlc, handle, 0])
+}
+
+// The data of a frame, to the end of the line.
+pub fn data(out: &mut [u8], at: usize, bytes: &[u8]) -> usize
+    ensures { λ r. ⌜ Put at (frames.data-of (now (bytes .entry))) (now (out .entry)) (now (out .exit)) r ⌝ }
+{
+    let word = put(out, at, b"data ");
+    let end = hex_or_none(out, word, bytes);
+    put(out, end, b"\n")
 }

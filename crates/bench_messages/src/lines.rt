@@ -1,7 +1,10 @@
 // How a line of the plain style begins, and what stands between its parts.
+ghost use mathlib.Core.Bool.{true};
 ghost use Rattle.bench_text.specs.Put.{Put};
 ghost use Rattle.bench_messages.specs.Lines as lines;
+use bench_say::form::hex_or_none;
 use bench_say::say::say;
+use bench_text::put::put;
 
 // The number of a line.
 pub fn number(out: &mut [u8], at: usize, line: u64) -> usize
@@ -46,6 +49,26 @@ pub fn but_expected(out: &mut [u8], at: usize) -> usize
     ensures { λ r. ⌜ Put at (lines.but-expected) (now (out .entry)) (now (out .exit)) r ⌝ }
 {
     say(out, at, b"; expected ", [0, 0, 0, 0, 0])
+}
+
+// A word in quotation marks.
+fn marked(out: &mut [u8], at: usize, word: &[u8]) -> usize
+    ensures { λ r. ⌜ Put at (lines.quoted (now (word .entry)) true) (now (out .entry)) (now (out .exit)) r ⌝ }
+{
+    let start = put(out, at, b" \"");
+    let end = put(out, start, word);
+    put(out, end, b"\"")
+}
+
+// The same; its bytes in hexadecimal where they cannot be shown.
+pub fn quoted(out: &mut [u8], at: usize, word: &[u8], printable: bool) -> usize
+    ensures { λ r. ⌜ Put at (lines.quoted (now (word .entry)) printable) (now (out .entry)) (now (out .exit)) r ⌝ }
+{
+    if printable {
+        return marked(out, at, word);
+    }
+    let end = put(out, at, b", bytes ");
+    hex_or_none(out, end, word)
 }
 
 // What may have been meant by a line that begins with a byte order mark, or has a CR.

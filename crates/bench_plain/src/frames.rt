@@ -2,8 +2,6 @@
 use crate::book::origin;
 use crate::book::sent_at;
 use bench_messages::frames;
-use bench_say::form::hex_or_none;
-use bench_text::put::put;
 use can::OBJECT_SIZE;
 use can::OBJECTS;
 use can::RAM_SIZE;
@@ -36,9 +34,7 @@ pub fn handle_in(ram: &[u8], object: u32) -> u64 {
 
 // The data of an object's frame, to the end of the line.
 pub fn data(out: &mut [u8], at: usize, ram: &[u8], object: u32) -> usize {
-    let mut end = put(out, at, b"data ");
-    end = hex_or_none(out, end, can::data_of(ram, object));
-    put(out, end, b"\n")
+    frames::data(out, at, can::data_of(ram, object))
 }
 
 // The frame of a sending object: object, handle, identifier, and the line that wrote it.

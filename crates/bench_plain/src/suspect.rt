@@ -1,10 +1,8 @@
 // The word that is wrong with a line that was not understood, so that it can be found in the script, and what may have been meant.
 use bench_lines::count::of_bytes;
 use bench_messages::lines;
-use bench_say::form::hex_or_none;
 use bench_script::command::LARGEST_BYTE;
 use bench_script::name::Name;
-use bench_text::put::put;
 use bench_words::digit::all_digits;
 use bench_words::identifier::identifier;
 use bench_words::number::number;
@@ -158,17 +156,6 @@ fn all_printable(text: &[u8]) -> bool {
     true
 }
 
-// A word in quotation marks; its bytes in hexadecimal where they cannot be shown.
-fn quoted(out: &mut [u8], at: usize, text: &[u8]) -> usize {
-    if !all_printable(text) {
-        let end = put(out, at, b", bytes ");
-        return hex_or_none(out, end, text);
-    }
-    let mut end = put(out, at, b" \"");
-    end = put(out, end, text);
-    put(out, end, b"\"")
-}
-
 // Where the word that is wrong stands.
 fn wrong(trouble: Trouble, name: Name, line: &[u8]) -> Span {
     let span = word_at(line, place(trouble, name, line));
@@ -186,7 +173,8 @@ pub fn shown(out: &mut [u8], at: usize, trouble: Trouble, name: Name, line: &[u8
         return at;
     }
     let end = of_bytes(SHOWN, word);
-    quoted(out, at, &word[..end])
+    let start = &word[..end];
+    lines::quoted(out, at, start, all_printable(start))
 }
 
 // Whether a line begins with a byte order mark, which some editors write.
