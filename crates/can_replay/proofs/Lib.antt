@@ -1,5 +1,2 @@
--- What the proofs of this crate share.
-pub mod Gates
-pub mod Rooms
-pub mod Steps
+-- What the proofs of a list of calls share.
 pub mod Plays

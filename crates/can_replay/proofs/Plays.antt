@@ -12,8 +12,9 @@ use Rattle.history.specs.Call.{performed}
 use Rattle.history.specs.Replay.{Whole, whole, whole-of, replayed}
 use Rattle.can_state.specs.declared.state.State.{State}
 use Rattle.can_state.specs.View.{view}
-use Rattle.can_replay.specs.Stepped.{Stands, Stepped}
-use Rattle.can_replay.specs.Replayed.{call-of, bytes-between, Events, event-count, made-at, all-replayed}
+use Rattle.can_step.specs.Stepped.{Stands, Stepped}
+use Rattle.can_step.specs.Called.{call-of}
+use Rattle.can_replay.specs.Replayed.{bytes-between, Events, event-count, made-at, all-replayed}
 
 -- the bytes of an event are the part that it names
 pub with-bytes : (e : Events) (i : ℕ) (sheet : List ℕ) {bytes : List ℕ} → bytes ≡ bytes-between (getD (e .starts) i 0) (getD (e .ends) i 0) (e .bytes)

@@ -1,5 +1,2 @@
--- What the contracts of this crate say beyond the rules.
-pub mod Places
-pub mod Gathered
-pub mod Stepped
+-- What the contracts of a list of calls say beyond the rules.
 pub mod Replayed

@@ -4,14 +4,14 @@ ghost use mathlib.Core.List.{List};
 ghost use Prim.Native.Nat.{ℕ, _<_};
 ghost use Rattle.can_state.specs.View.{view};
 ghost use Rattle.history.specs.Replay.{whole};
-ghost use Rattle.can_replay.specs.Gathered.{gathered};
-ghost use Rattle.can_replay.specs.Stepped.{Stands, Stepped};
+ghost use Rattle.can_step.specs.Gathered.{gathered};
+ghost use Rattle.can_step.specs.Stepped.{Stands, Stepped};
 ghost use Rattle.can_replay.specs.Replayed.{bytes-between, events-in, event-count, made-at, all-replayed};
-use crate::step::step;
 use can_chip::CONTROLLERS;
 use can_chip::OBJECTS;
 use can_state::state::State;
 use can_state::validity::valid;
+use can_step::step::step;
 use core_places::range::limited;
 
 // The part of the data from start to end, none where there is no such part.

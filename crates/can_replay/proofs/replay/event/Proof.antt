@@ -1,7 +1,7 @@
 -- The event's fields stand at its number, and its bytes are the part that it names.
 use native.Mathlib.Omega.{arith}
 use Rattle.can_state.specs.View.{view}
-use Rattle.can_replay.specs.Gathered.{gathered}
+use Rattle.can_step.specs.Gathered.{gathered}
 use Rattle.can_replay.specs.Replayed.{events-in}
 use Rattle.can_replay.proofs.Plays.{with-bytes}
 use borrow.Author.Needs.{needs}

@@ -5,7 +5,7 @@ use native.Mathlib.Omega.{arith}
 use borrow.Author.Needs.{needs}
 use Rattle.history.specs.Replay.{whole}
 use Rattle.can_state.specs.View.{view}
-use Rattle.can_replay.specs.Gathered.{gathered}
+use Rattle.can_step.specs.Gathered.{gathered}
 use Rattle.can_replay.specs.Replayed.{events-in}
 use Rattle.can_replay.proofs.Plays.{Playing, playing-begins, playing-goes-on, playing-ends}
 use Rattle.can_replay.proofs.replay.play.Statement.{statement}

@@ -1,0 +1,25 @@
+// One call of a list, made over lent arrays through the core. A valid state is asked for and a valid one is left, so that no call has to
+// test it; only Init and DeInit, which go through the driver's own calls, do.
+//
+// An event says which call: its kind; its object or controller; its identifier, or the mode asked for; its handle; and its bytes. What a
+// kind does not need may be any number.
+//
+//     kind                             fields
+//     0  Init                          bytes: the configuration
+//     1  DeInit
+//     2  SetControllerMode             controller, mode
+//     3  GetControllerMode             controller
+//     4  Write                         object, identifier, handle, bytes
+//     5  write poll
+//     6  read poll
+//     7  mode poll
+//     8  bus-off poll
+//     9  TxComplete                    object
+//     10 BusOffDetected                controller
+//     any other: FrameArrived          controller, identifier, bytes
+mod events;
+mod frames;
+mod polls;
+mod services;
+pub mod step;
+mod whole;
