@@ -1,12 +1,11 @@
 -- A text at the left of its columns, and the digits of a number.
 use Prim.Native.Nat.{ℕ, zero, suc, _+_, _-_, _/_, _≤_}
 use mathlib.Core.Path.{_≡_, refl, sym, ap, _∙_}
-use mathlib.Core.List.{List, [], _∷_, _++_}
+use mathlib.Core.List.{List, _++_}
 use native.Mathlib.Omega.{arith}
 use native.Mathlib.Decide.{decLe}
 use lib.ListN.{length, take, length-append}
-use lib.Seq.{take-append-le, take-all, length-take-le}
-use Rattle.rules.specs.Bytes.{splice}
+use lib.Seq.{take-append-le, take-all}
 use Rattle.io.specs.Digits.{digits, Fewest}
 use Rattle.bench_text.specs.Put.{Put, fitting, decimal}
 use Rattle.bench_text.proofs.Writing.{then, numeral-is}

@@ -1,7 +1,7 @@
 -- The forms of a number in a text.
 use Prim.Native.Nat.{ℕ, _-_, _%_, _^_, max}
 use Prim.Native.Char.{code}
-use mathlib.Core.Bool.{Bool, cond, _&&_, _||_}
+use mathlib.Core.Bool.{Bool, cond, _||_}
 use mathlib.Core.List.{List, [], _++_}
 use lib.ListN.{length, replicate}
 use lib.Dec.{eqb, leb}

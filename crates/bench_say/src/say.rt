@@ -8,7 +8,6 @@
 //     %i %I          an identifier, and one in its column
 //     %x %h %H       in hexadecimal, with at least three, two or eight digits
 ghost use mathlib.Core.Path.{_≡_};
-ghost use mathlib.Core.List.{[], _∷_};
 ghost use Prim.Native.Nat.{_≤_};
 ghost use lib.ListN.{getD};
 ghost use Rattle.bench_words.specs.Piece.{piece};
@@ -21,13 +20,7 @@ use bench_words::piece::piece;
 // The most numbers of a text.
 pub const NUMBERS: usize = 5;
 
-// No number, one, two and three.
-pub fn none() -> [u64; NUMBERS]
-    ensures { λ r. ⌜ r ≡ says.five 0 0 0 0 0 ⌝ }
-{
-    [0, 0, 0, 0, 0]
-}
-
+// One number, two and three.
 pub fn one(a: u64) -> [u64; NUMBERS]
     ensures { λ r. ⌜ r ≡ says.five a 0 0 0 0 ⌝ }
 {

@@ -1,11 +1,11 @@
 -- A text in a buffer, as much of it as fits; one text behind another; and the digits of numbers and bytes.
-use Prim.Native.Nat.{ℕ, zero, suc, _+_, _*_, _-_, _/_, _%_, _^_, _≤_, _<_, min}
+use Prim.Native.Nat.{ℕ, zero, suc, _+_, _-_, _/_, _%_, _^_, _≤_, _<_, min}
 use mathlib.Core.Path.{_≡_, refl, sym, ap, _∙_}
-use mathlib.Core.Bool.{Bool, true, false, cond, _&&_}
+use mathlib.Core.Bool.{false, _&&_}
 use mathlib.Core.List.{List, [], _∷_, _++_}
 use native.Mathlib.Omega.{arith}
 use native.Mathlib.Decide.{decLe}
-use native.Mathlib.Nat.{min-eq-left, min-eq-right, min-le-left, min-le-right, pow-zero, pow-suc, one-le-pow, lt-of-lt-of-le, le-trans, mul-le-mul-left, div-lt-iff-lt-mul, le-div-iff-mul-le}
+use native.Mathlib.Nat.{min-eq-left, min-eq-right, min-le-left, min-le-right, pow-zero, pow-suc, one-le-pow, mul-le-mul-left, div-lt-iff-lt-mul, le-div-iff-mul-le}
 use borrow.Author.Tests.{eq-eqb, ne-eqb}
 use lib.Dec.{eqb}
 use lib.ListN.{length, take, replicate, length-take, length-append, length-replicate}

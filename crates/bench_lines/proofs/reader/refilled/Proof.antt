@@ -1,6 +1,5 @@
 -- `bench_lines::reader::refilled` meets its contract: a read that fails reads nothing, since only an ended input counts as failed.
 use mathlib.Core.Path.{refl}
-use native.Mathlib.Omega.{arith}
 use lib.Dec.{eqb}
 use borrow.Author.Tests.{eqb-true}
 use borrow.Author.Needs.{needs}

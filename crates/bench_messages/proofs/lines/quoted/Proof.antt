@@ -1,7 +1,6 @@
 -- `bench_messages::lines::quoted` meets its contract: the test picks the case.
 use Rattle.bench_text.proofs.Writing.{then}
 use Rattle.bench_words.specs.Text.{ascii}
-use mathlib.Core.List.{_++_}
 use Rattle.bench_say.specs.Form.{hex-or-none}
 use borrow.Author.Needs.{needs}
 use Rattle.bench_messages.proofs.lines.quoted.Statement.{statement}

@@ -1,6 +1,6 @@
 -- `bench_say::form::count_of` meets its contract: the number, the word, and an s but for one.
 use Rattle.bench_text.proofs.Writing.{then}
-use borrow.Author.Tests.{eq-eqb, ne-eqb, le-leb, lt-leb}
+use borrow.Author.Tests.{eq-eqb, ne-eqb}
 use Rattle.bench_say.specs.Form.{count-of}
 use Rattle.bench_text.specs.Put.{decimal}
 use Rattle.bench_words.specs.Text.{ascii}

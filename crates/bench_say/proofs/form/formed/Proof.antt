@@ -1,5 +1,5 @@
 -- `bench_say::form::formed` meets its contract: each test picks its kind of form.
-use borrow.Author.Tests.{eq-eqb, ne-eqb, le-leb, lt-leb}
+use borrow.Author.Tests.{le-leb, lt-leb}
 use Rattle.bench_say.specs.Form.{formed}
 use mathlib.Core.Path.{sym, _∙_}
 use borrow.Author.Needs.{needs}

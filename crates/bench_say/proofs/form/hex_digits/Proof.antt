@@ -1,5 +1,5 @@
 -- `bench_say::form::hex_digits` meets its contract: each test picks its case.
-use borrow.Author.Tests.{eq-eqb, ne-eqb, le-leb, lt-leb}
+use borrow.Author.Tests.{eq-eqb, ne-eqb}
 use Rattle.bench_say.proofs.form.hex_digits.Statement.{statement}
 use Rattle.bench_say.proofs.form.hex_digits.Tie as tie
 

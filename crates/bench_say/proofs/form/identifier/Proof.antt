@@ -1,7 +1,6 @@
 -- `bench_say::form::identifier` meets its contract: the digits, and the marks.
 use Rattle.bench_text.proofs.Writing.{then}
 use Rattle.bench_say.specs.Form.{identifier, marks}
-use Prim.Native.Nat.{_%_, _^_}
 use Rattle.bench_text.specs.Put.{hexadecimal}
 use borrow.Author.Needs.{needs}
 use Rattle.bench_say.proofs.form.identifier.Statement.{statement}

@@ -1,6 +1,6 @@
 -- `bench_say::form::mode` meets its contract: each test picks its case of the definition.
 use Rattle.bench_text.proofs.Writing.{then}
-use borrow.Author.Tests.{eq-eqb, ne-eqb, le-leb, lt-leb}
+use borrow.Author.Tests.{eq-eqb, ne-eqb}
 use Rattle.bench_say.specs.Form.{mode-name}
 use Rattle.bench_text.specs.Put.{decimal}
 use Rattle.bench_words.specs.Text.{ascii}

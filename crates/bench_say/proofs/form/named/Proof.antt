@@ -1,5 +1,5 @@
 -- `bench_say::form::named` meets its contract: each test picks its form.
-use borrow.Author.Tests.{eq-eqb, ne-eqb, le-leb, lt-leb}
+use borrow.Author.Tests.{eq-eqb, ne-eqb}
 use Rattle.bench_say.specs.Form.{named}
 use borrow.Author.Needs.{needs}
 use Rattle.bench_say.proofs.form.named.Statement.{statement}

@@ -1,5 +1,5 @@
 -- `bench_say::form::units` meets its contract: each test picks its unit.
-use borrow.Author.Tests.{eq-eqb, ne-eqb, le-leb, lt-leb}
+use borrow.Author.Tests.{eq-eqb, ne-eqb}
 use borrow.Author.Needs.{needs}
 use Rattle.bench_say.proofs.form.units.Statement.{statement}
 use Rattle.bench_say.proofs.form.units.Tie as tie

@@ -1,5 +1,5 @@
 -- `bench_say::say::turn` meets its contract: each test picks its case.
-use borrow.Author.Tests.{eq-eqb, ne-eqb, le-leb, lt-leb}
+use borrow.Author.Tests.{eq-eqb, ne-eqb}
 use Rattle.bench_say.specs.Say.{turn}
 use Rattle.bench_text.proofs.Writing.{nothing}
 use borrow.Author.Needs.{needs}
