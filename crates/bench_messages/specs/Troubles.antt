@@ -1,6 +1,9 @@
 -- What is wrong with a line of a script, and what was expected.
 use Prim.Native.String.{String}
-use mathlib.Core.Bool.{Bool, true, false, cond}
+use mathlib.Core.Bool.{cond}
+use lib.Dec.{eqb}
+use lib.ListN.{length}
+use Rattle.bench_words.specs.Text.{ascii}
 use Rattle.bench_words.specs.declared.reading.Trouble.{Trouble}
 use Rattle.bench_words.specs.declared.reading.Trouble.the-variants.{LineTooLong, UnknownCommand, WordMissing, WordTooMany, NotANumber, NumberTooLarge, NotAnIdentifier, IdentifierTooLong, NotHexDigits, OddDigits, NotOneByte, NotAMode, UnknownPoll, HandleTooLarge, SheetTooLong, MemoryTooLong, ByteTooLarge, UnexpectedWord, UnknownKind, TooManyObjects}
 use Rattle.bench_script.specs.declared.name.Name.{Name}
@@ -49,7 +52,7 @@ usage-text names.Controllers = "controllers COUNT"
 usage-text names.Object = "object send controller C payload P padding XX, or object receive controller C payload P code ID mask ID"
 usage-text names.Unknown = "init, controllers, object, deinit, set, get, write, poll, sent, busoff, arrived, data, sheet, memory, show or state"
 
--- what was expected instead of a word
+-- what was expected instead of a word; nothing where the trouble is with the whole of a command
 abbrev pub word-text : Trouble → String
 word-text LineTooLong = "at most 8192 bytes"
 word-text UnknownCommand = ""
@@ -72,30 +75,7 @@ word-text UnexpectedWord = ""
 word-text UnknownKind = "send or receive"
 word-text TooManyObjects = "at most 255"
 
--- the trouble is with the whole of a command
-abbrev pub is-of-command : Trouble → Bool
-is-of-command LineTooLong = false
-is-of-command UnknownCommand = true
-is-of-command WordMissing = true
-is-of-command WordTooMany = true
-is-of-command NotANumber = false
-is-of-command NumberTooLarge = false
-is-of-command NotAnIdentifier = false
-is-of-command IdentifierTooLong = false
-is-of-command NotHexDigits = false
-is-of-command OddDigits = false
-is-of-command NotOneByte = false
-is-of-command NotAMode = false
-is-of-command UnknownPoll = true
-is-of-command HandleTooLarge = false
-is-of-command SheetTooLong = false
-is-of-command MemoryTooLong = false
-is-of-command ByteTooLarge = false
-is-of-command UnexpectedWord = true
-is-of-command UnknownKind = false
-is-of-command TooManyObjects = false
-
--- and with which one
+-- the command whose words were expected, where the trouble is with the whole of one
 abbrev pub command-of : Trouble → Name → Name
 command-of LineTooLong name = name
 command-of UnknownCommand name = name
@@ -118,6 +98,6 @@ command-of UnexpectedWord name = names.Object
 command-of UnknownKind name = name
 command-of TooManyObjects name = name
 
--- what was expected of a line that begins with a command's name
+-- what was expected of a line that begins with a command's name: the words of a command where no word is at fault
 abbrev pub expected-text : Trouble → Name → String
-expected-text trouble name = cond (is-of-command trouble) (usage-text (command-of trouble name)) (word-text trouble)
+expected-text trouble name = cond (eqb (length (ascii (word-text trouble))) 0) (usage-text (command-of trouble name)) (word-text trouble)

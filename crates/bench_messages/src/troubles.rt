@@ -2,7 +2,7 @@
 ghost use mathlib.Core.Path.{_≡_};
 ghost use Rattle.bench_text.specs.Put.{Put};
 ghost use Rattle.bench_words.specs.Text.{ascii};
-ghost use Rattle.bench_messages.specs.Troubles.{trouble-text, usage-text, word-text, is-of-command, command-of, expected-text};
+ghost use Rattle.bench_messages.specs.Troubles.{trouble-text, usage-text, command-of, expected-text};
 ghost use Rattle.bench_messages.specs.Places.{trouble-place, name-place};
 use bench_script::name::Name;
 use bench_text::put::put;
@@ -111,61 +111,7 @@ fn usage(out: &mut [u8], at: usize, name: Name) -> usize
     put(out, at, piece(texts, place_of(name)))
 }
 
-// What was expected instead of a word; the troubles with a whole command have none here.
-fn expected_word(out: &mut [u8], at: usize, trouble: Trouble) -> usize
-    ensures { λ r. ⌜ Put at (ascii (word-text trouble)) (now (out .entry)) (now (out .exit)) r ⌝ }
-{
-    let texts = b"at most 8192 bytes|\
-        |\
-        |\
-        |\
-        decimal digits, or 0x and hex digits|\
-        at most 4294967295|\
-        hex digits, with or without 0x|\
-        at most 8 hex digits|\
-        hex digits in pairs, or - alone for none|\
-        two hex digits for each byte|\
-        two hex digits|\
-        STARTED, STOPPED, SLEEP or a number|\
-        |\
-        at most 65535|\
-        at most 4096 words|\
-        at most 16384 bytes|\
-        at most 255|\
-        |\
-        send or receive|\
-        at most 255";
-    put(out, at, piece(texts, place(trouble)))
-}
-
-// Whether a trouble is with the whole of a command, and with which one.
-fn is_of_command(trouble: Trouble) -> bool
-    ensures { λ r. ⌜ r ≡ is-of-command trouble ⌝ }
-{
-    match trouble {
-        Trouble::LineTooLong => false,
-        Trouble::UnknownCommand => true,
-        Trouble::WordMissing => true,
-        Trouble::WordTooMany => true,
-        Trouble::NotANumber => false,
-        Trouble::NumberTooLarge => false,
-        Trouble::NotAnIdentifier => false,
-        Trouble::IdentifierTooLong => false,
-        Trouble::NotHexDigits => false,
-        Trouble::OddDigits => false,
-        Trouble::NotOneByte => false,
-        Trouble::NotAMode => false,
-        Trouble::UnknownPoll => true,
-        Trouble::HandleTooLarge => false,
-        Trouble::SheetTooLong => false,
-        Trouble::MemoryTooLong => false,
-        Trouble::ByteTooLarge => false,
-        Trouble::UnexpectedWord => true,
-        Trouble::UnknownKind => false,
-        Trouble::TooManyObjects => false,
-    }
-}
-
+// The command whose words were expected, where the trouble is with the whole of one.
 fn command_of(trouble: Trouble, name: Name) -> Name
     ensures { λ r. ⌜ r ≡ command-of trouble name ⌝ }
 {
@@ -193,12 +139,33 @@ fn command_of(trouble: Trouble, name: Name) -> Name
     }
 }
 
-// What was expected of a line that begins with a command's name.
+// What was expected of a line that begins with a command's name: the words of a command where no word is at fault.
 pub fn expected(out: &mut [u8], at: usize, trouble: Trouble, name: Name) -> usize
     ensures { λ r. ⌜ Put at (ascii (expected-text trouble name)) (now (out .entry)) (now (out .exit)) r ⌝ }
 {
-    if is_of_command(trouble) {
+    let texts = b"at most 8192 bytes|\
+        |\
+        |\
+        |\
+        decimal digits, or 0x and hex digits|\
+        at most 4294967295|\
+        hex digits, with or without 0x|\
+        at most 8 hex digits|\
+        hex digits in pairs, or - alone for none|\
+        two hex digits for each byte|\
+        two hex digits|\
+        STARTED, STOPPED, SLEEP or a number|\
+        |\
+        at most 65535|\
+        at most 4096 words|\
+        at most 16384 bytes|\
+        at most 255|\
+        |\
+        send or receive|\
+        at most 255";
+    let word = piece(texts, place(trouble));
+    if word.len() == 0 {
         return usage(out, at, command_of(trouble, name));
     }
-    expected_word(out, at, trouble)
+    put(out, at, word)
 }
