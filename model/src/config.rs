@@ -1,4 +1,4 @@
-//! Configuration bytes and what they say ("Configuration bytes").
+//! Configuration bytes and what they say ("Configuration bytes"; 02, Q-1).
 
 use crate::identifier::{EXTENDED, EXTENDED_ONLY, FD, SPARE};
 use crate::limits::{CONTROLLERS, OBJECTS};
@@ -55,12 +55,19 @@ impl ObjectConfig {
     }
 
     /// Code bits 30 and 29 zero; mask bits 31 to 29 zero; if code bit 31 is
-    /// clear, bits 28 to 11 of code and mask zero.
+    /// clear, bits 28 to 11 of code and mask zero; no stray bit.
     fn filter_is_acceptable(&self) -> bool {
         let standard = self.code & EXTENDED == 0;
         self.code & (FD | SPARE) == 0
             && self.mask & (EXTENDED | FD | SPARE) == 0
             && !(standard && (self.code | self.mask) & EXTENDED_ONLY != 0)
+            && !self.has_stray_bit()
+    }
+
+    /// bits 28 to 0 of the code have a one where the mask has a zero.
+    fn has_stray_bit(&self) -> bool {
+        let bits = !(EXTENDED | FD | SPARE);
+        self.code & !self.mask & bits != 0
     }
 }
 
@@ -272,7 +279,8 @@ mod tests {
     #[test]
     fn standard_filters_use_bits_10_to_0() {
         for bit in 0..32 {
-            assert_eq!(accepted(&receiving(1 << bit, 0)), bit <= 10 || bit == 31, "code bit {bit}");
+            let both = receiving(1 << bit, 1 << bit);
+            assert_eq!(accepted(&both), bit <= 10, "code and mask bit {bit}");
             assert_eq!(accepted(&receiving(0, 1 << bit)), bit <= 10, "mask bit {bit}");
         }
         assert!(accepted(&receiving(0x7FF, 0x7FF)));
@@ -281,12 +289,33 @@ mod tests {
     #[test]
     fn extended_filters_use_bits_28_to_0() {
         for bit in 0..31 {
-            assert_eq!(accepted(&receiving(EXTENDED | 1 << bit, 0)), bit <= 28, "code bit {bit}");
+            let both = receiving(EXTENDED | 1 << bit, 1 << bit);
+            assert_eq!(accepted(&both), bit <= 28, "code and mask bit {bit}");
         }
         for bit in 0..32 {
             assert_eq!(accepted(&receiving(EXTENDED, 1 << bit)), bit <= 28, "mask bit {bit}");
         }
+        assert!(accepted(&receiving(EXTENDED, 0)), "bit 31 of a code is not masked");
         assert!(accepted(&receiving(0x9FFF_FFFF, 0x1FFF_FFFF)));
+    }
+
+    #[test]
+    fn a_code_has_no_bit_outside_its_mask() {
+        for (kind, bits) in [(0, 0x7FF), (EXTENDED, 0x1FFF_FFFF)] {
+            assert!(accepted(&receiving(kind, 0)), "no bit, mask 0");
+            assert!(accepted(&receiving(kind, bits)), "no bit, all mask bits");
+            assert!(accepted(&receiving(kind | bits, bits)), "all bits, all mask bits");
+            for bit in (0..=28).map(|bit| 1 << bit).filter(|bit| bits & bit != 0) {
+                assert!(!accepted(&receiving(kind | bit, 0)), "{bit:x}, mask 0");
+                assert!(
+                    !accepted(&receiving(kind | bit, bits & !bit)),
+                    "{bit:x}, all mask bits but it"
+                );
+                assert!(accepted(&receiving(kind | bit, bit)), "{bit:x}, its mask bit alone");
+                assert!(accepted(&receiving(kind | bits & !bit, bits & !bit)), "all but {bit:x}");
+            }
+        }
+        assert!(!accepted(&receiving(0x121, 0x7FE)));
     }
 
     #[test]

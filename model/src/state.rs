@@ -167,6 +167,29 @@ mod tests {
     }
 
     #[test]
+    fn a_filter_code_outside_its_mask_is_not_sound() {
+        let holding = |code, mask| {
+            let object = ObjectConfig {
+                kind: Kind::Receiving,
+                payload: 8,
+                code,
+                mask,
+                ..ObjectConfig::default()
+            };
+            let mut places = [ObjectConfig::default(); OBJECTS];
+            places[0] = object;
+            State::configured(Config::of(1, 1, places)).is_sound()
+        };
+        assert!(holding(0x120, 0x7FF));
+        assert!(!holding(0x121, 0x7FE));
+        assert!(!holding(1, 0));
+        assert!(holding(0x8000_0000, 0));
+        assert!(!holding(0x9000_0000, 0));
+        assert!(holding(0x9FFF_FFFF, 0x1FFF_FFFF));
+        assert!(!holding(0x9FFF_FFFF, 0x0FFF_FFFF));
+    }
+
+    #[test]
     fn controllers() {
         assert!(!sound(|s| s.controllers[1].mode = Mode::Uninit));
         assert!(!sound(|s| s.controllers[2].mode = Mode::Stopped));

@@ -85,7 +85,7 @@ word-found troubles.UnexpectedWord = refl
 word-found troubles.UnknownKind = refl
 word-found troubles.TooManyObjects = refl
 
-pub fault-found : (x : Rule) → piece (rule-place x) (joined (fault-text rules.Accepted ∷ fault-text rules.Mark ∷ fault-text rules.Version ∷ fault-text rules.Controllers ∷ fault-text rules.Objects ∷ fault-text rules.ZeroByte ∷ fault-text rules.Size ∷ fault-text rules.Controller ∷ fault-text rules.Kind ∷ fault-text rules.Payload ∷ fault-text rules.SendingCode ∷ fault-text rules.SendingMask ∷ fault-text rules.ReceivingPadding ∷ fault-text rules.CodeBits ∷ fault-text rules.MaskBits ∷ fault-text rules.StandardCode ∷ fault-text rules.StandardMask ∷ [])) ≡ ascii (fault-text x)
+pub fault-found : (x : Rule) → piece (rule-place x) (joined (fault-text rules.Accepted ∷ fault-text rules.Mark ∷ fault-text rules.Version ∷ fault-text rules.Controllers ∷ fault-text rules.Objects ∷ fault-text rules.ZeroByte ∷ fault-text rules.Size ∷ fault-text rules.Controller ∷ fault-text rules.Kind ∷ fault-text rules.Payload ∷ fault-text rules.SendingCode ∷ fault-text rules.SendingMask ∷ fault-text rules.ReceivingPadding ∷ fault-text rules.CodeBits ∷ fault-text rules.MaskBits ∷ fault-text rules.StandardCode ∷ fault-text rules.StandardMask ∷ fault-text rules.StrayBit ∷ [])) ≡ ascii (fault-text x)
 unfolding piece-start leading
 fault-found rules.Accepted = refl
 fault-found rules.Mark = refl
@@ -104,6 +104,7 @@ fault-found rules.CodeBits = refl
 fault-found rules.MaskBits = refl
 fault-found rules.StandardCode = refl
 fault-found rules.StandardMask = refl
+fault-found rules.StrayBit = refl
 
 pub row-found : (what : ℕ) → what < 11 → piece what (joined rows) ≡ ascii (getD rows what "")
 unfolding piece-start leading

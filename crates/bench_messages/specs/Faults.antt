@@ -1,7 +1,7 @@
 -- The first rule that a configuration's bytes break, in words.
 use Prim.Native.String.{String}
 use Rattle.can_faults.specs.declared.fault.Rule.{Rule}
-use Rattle.can_faults.specs.declared.fault.Rule.the-variants.{Accepted, Mark, Version, Controllers, Objects, ZeroByte, Size, Controller, Kind, Payload, SendingCode, SendingMask, ReceivingPadding, CodeBits, MaskBits, StandardCode, StandardMask}
+use Rattle.can_faults.specs.declared.fault.Rule.the-variants.{Accepted, Mark, Version, Controllers, Objects, ZeroByte, Size, Controller, Kind, Payload, SendingCode, SendingMask, ReceivingPadding, CodeBits, MaskBits, StandardCode, StandardMask, StrayBit}
 
 -- which rule; the numbers are the object, where the rule is of one, and what was found
 abbrev pub fault-text : Rule → String
@@ -22,3 +22,4 @@ fault-text CodeBits = "object %0: code %x, expected bits 30 and 29 clear"
 fault-text MaskBits = "object %0: mask %x, expected bits 31 to 29 clear"
 fault-text StandardCode = "object %0: code %x, expected bits 28 to 11 clear where bit 31 is"
 fault-text StandardMask = "object %0: mask %x, expected bits 28 to 11 clear where the code's bit 31 is"
+fault-text StrayBit = "object %0: code %x, expected bit %0 clear as in mask %x"

@@ -66,3 +66,4 @@ rule-place rules.CodeBits = 13
 rule-place rules.MaskBits = 14
 rule-place rules.StandardCode = 15
 rule-place rules.StandardMask = 16
+rule-place rules.StrayBit = 17

@@ -29,6 +29,7 @@ fn place(rule: Rule) -> usize
         Rule::MaskBits => 14,
         Rule::StandardCode => 15,
         Rule::StandardMask => 16,
+        Rule::StrayBit => 17,
     }
 }
 
@@ -52,6 +53,7 @@ pub fn fault(out: &mut [u8], at: usize, rule: Rule, numbers: [u64; NUMBERS]) -> 
         object %0: code %x, expected bits 30 and 29 clear|\
         object %0: mask %x, expected bits 31 to 29 clear|\
         object %0: code %x, expected bits 28 to 11 clear where bit 31 is|\
-        object %0: mask %x, expected bits 28 to 11 clear where the code's bit 31 is";
+        object %0: mask %x, expected bits 28 to 11 clear where the code's bit 31 is|\
+        object %0: code %x, expected bit %0 clear as in mask %x";
     say_one(out, at, texts, place(rule), numbers)
 }

@@ -1,6 +1,7 @@
 // The first rule that bad configuration bytes break, in words.
 use bench_messages::faults;
 use bench_say::say::NUMBERS;
+use bench_say::say::four;
 use bench_say::say::one;
 use bench_say::say::three;
 use bench_say::say::two;
@@ -13,6 +14,7 @@ use can_config::header::ZERO_AT;
 use can_config::record::RECORD_SIZE;
 use can_faults::fault::Rule;
 use can_faults::find::fault;
+use can_faults::stray::stray_bit;
 use core_layout::bytes::number_4;
 
 // Where byte k of an object's record stands; one byte counts the objects.
@@ -29,13 +31,13 @@ fn byte(bytes: &[u8], object: usize, k: usize) -> u64 {
 }
 
 // Four bytes of it as a number; 0 where there are none.
-fn number(bytes: &[u8], object: usize, k: usize) -> u64 {
+fn number(bytes: &[u8], object: usize, k: usize) -> u32 {
     let at = position(object, k);
-    let four = between(bytes, at, std::num::wrapping_add_usize(at, 4));
-    if four.len() < 4 {
+    let word = between(bytes, at, std::num::wrapping_add_usize(at, 4));
+    if word.len() < 4 {
         return 0;
     }
-    number_4(four, 0) as u64
+    number_4(word, 0)
 }
 
 // The numbers of a rule of the header or of the whole, in the order of its text.
@@ -56,6 +58,8 @@ fn outline_numbers(bytes: &[u8], rule: Rule) -> [u64; NUMBERS] {
 // The numbers of a rule of an object's record.
 fn record_numbers(bytes: &[u8], object: usize, rule: Rule) -> [u64; NUMBERS] {
     let h = object as u64;
+    let code = number(bytes, object, 4);
+    let mask = number(bytes, object, 8);
     match rule {
         Rule::Controller => three(
             h,
@@ -65,8 +69,9 @@ fn record_numbers(bytes: &[u8], object: usize, rule: Rule) -> [u64; NUMBERS] {
         Rule::Kind => two(h, byte(bytes, object, 1)),
         Rule::Payload => two(h, byte(bytes, object, 2)),
         Rule::ReceivingPadding => two(h, byte(bytes, object, 3)),
-        Rule::SendingCode | Rule::CodeBits | Rule::StandardCode => two(h, number(bytes, object, 4)),
-        _ => two(h, number(bytes, object, 8)),
+        Rule::SendingCode | Rule::CodeBits | Rule::StandardCode => two(h, code as u64),
+        Rule::StrayBit => four(h, code as u64, stray_bit(code, mask) as u64, mask as u64),
+        _ => two(h, mask as u64),
     }
 }
 

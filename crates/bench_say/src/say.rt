@@ -20,7 +20,7 @@ use bench_words::piece::piece;
 // The most numbers of a text.
 pub const NUMBERS: usize = 5;
 
-// One number, two and three.
+// One number, two, three and four.
 pub fn one(a: u64) -> [u64; NUMBERS]
     ensures { λ r. ⌜ r ≡ says.five a 0 0 0 0 ⌝ }
 {
@@ -37,6 +37,12 @@ pub fn three(a: u64, b: u64, c: u64) -> [u64; NUMBERS]
     ensures { λ r. ⌜ r ≡ says.five a b c 0 0 ⌝ }
 {
     [a, b, c, 0, 0]
+}
+
+pub fn four(a: u64, b: u64, c: u64, d: u64) -> [u64; NUMBERS]
+    ensures { λ r. ⌜ r ≡ says.five a b c d 0 ⌝ }
+{
+    [a, b, c, d, 0]
 }
 
 // Number k; 0 behind the last one.

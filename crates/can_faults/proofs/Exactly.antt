@@ -9,7 +9,7 @@ use lib.Bits.{bitAnd}
 use Rattle.rules.specs.Bytes.{same-bytes}
 use Rattle.rules.specs.Core.{owner-valid}
 use Rattle.rules.specs.Configuration.{controllers-byte, objects-byte, owner-of, object-record, size-valid}
-use Rattle.rules.specs.Can.{Settings, can-format, header, is-extended, extended-only, longest-classic, longest-fd, settings-of, sending-valid, receiving-valid}
+use Rattle.rules.specs.Can.{Settings, can-format, header, is-extended, extended-only, within-mask, longest-classic, longest-fd, settings-of, sending-valid, receiving-valid}
 use Rattle.rules.specs.Chip.{chip}
 use Rattle.laws.proofs.Tests.{and-false}
 use Rattle.laws.proofs.Repeat.{all-below-ext}
@@ -72,20 +72,22 @@ outline-exactly bytes =
 sending : (code mask : Bool) → (code && (mask && true)) ≡ (code && mask)
 sending code mask = ap (λ (t : Bool). code && t) (and-true mask)
 
-receiving : (padding code mask extended c m : Bool)
-    → (padding && (code && (mask && ((extended || c) && ((extended || m) && true))))) ≡ (padding && code && mask && (extended || c && m))
-receiving false code mask extended c m = refl
-receiving true false mask extended c m = refl
-receiving true true false extended c m = refl
-receiving true true true true c m = refl
-receiving true true true false c m = sending c m
+receiving : (padding code mask extended c m within : Bool)
+    → (padding && (code && (mask && ((extended || c) && ((extended || m) && (within && true))))))
+    ≡ (padding && code && mask && (extended || c && m) && within)
+receiving false code mask extended c m within = refl
+receiving true false mask extended c m within = refl
+receiving true true false extended c m within = refl
+receiving true true true true c m within = and-true within
+receiving true true true false true m within = sending m within
+receiving true true true false false m within = refl
 
 -- the rules of an object's kind are the tests of its settings
 kind-kept : (t : Bool) (s : Settings) → all-kept (cond t (receiving-rules s) (sending-rules s)) ≡ cond t (receiving-valid s) (sending-valid s)
 unfolding all-kept receiving-rules sending-rules
 kind-kept true s =
     receiving (eqb (s .padding) 0) (eqb (bitAnd (s .code) 0x60000000) 0) (eqb (bitAnd (s .mask) 0xE0000000) 0) (is-extended (s .code))
-    (eqb (bitAnd (s .code) extended-only) 0) (eqb (bitAnd (s .mask) extended-only) 0)
+    (eqb (bitAnd (s .code) extended-only) 0) (eqb (bitAnd (s .mask) extended-only) 0) (within-mask (s .code) (s .mask))
 kind-kept false s = sending (eqb (s .code) 0) (eqb (s .mask) 0)
 
 kind-named : (t : Bool) (s : Settings) → rules-named (cond t (receiving-rules s) (sending-rules s)) ≡ true

@@ -1,3 +1,4 @@
--- Laws that proofs of this crate cite, and the theorem.
+-- Laws that proofs of this crate cite, and the theorems.
 pub mod Laws
 pub mod Exactly
+pub mod Bits

@@ -9,10 +9,10 @@ use lib.Bits.{bitAnd}
 use Rattle.rules.specs.Bytes.{same-bytes}
 use Rattle.rules.specs.Core.{Owner, owner-valid}
 use Rattle.rules.specs.Configuration.{controllers-byte, objects-byte, owner-of, object-record, size-valid}
-use Rattle.rules.specs.Can.{Settings, can-format, is-extended, extended-only, longest-classic, longest-fd, settings-of}
+use Rattle.rules.specs.Can.{Settings, can-format, is-extended, extended-only, within-mask, longest-classic, longest-fd, settings-of}
 use Rattle.rules.specs.Chip.{chip}
 use Rattle.can_faults.specs.declared.fault.Rule.{Rule}
-use Rattle.can_faults.specs.declared.fault.Rule.the-variants.{Accepted, Mark, Version, Controllers, Objects, ZeroByte, Size, Controller, Kind, Payload, SendingCode, SendingMask, ReceivingPadding, CodeBits, MaskBits, StandardCode, StandardMask}
+use Rattle.can_faults.specs.declared.fault.Rule.the-variants.{Accepted, Mark, Version, Controllers, Objects, ZeroByte, Size, Controller, Kind, Payload, SendingCode, SendingMask, ReceivingPadding, CodeBits, MaskBits, StandardCode, StandardMask, StrayBit}
 use Rattle.can_faults.specs.declared.fault.Fault.{Fault}
 
 -- no rule is broken
@@ -34,6 +34,7 @@ is-accepted CodeBits = false
 is-accepted MaskBits = false
 is-accepted StandardCode = false
 is-accepted StandardMask = false
+is-accepted StrayBit = false
 
 -- one line of a list of rules: `rule unless kept`
 pub record Test : Type 0 where
@@ -70,7 +71,7 @@ outline-rules bytes =
 unfoldable pub sending-rules : Settings → List Test
 sending-rules s = SendingCode unless eqb (s .code) 0 ∷ SendingMask unless eqb (s .mask) 0 ∷ []
 
--- Receiving: what 01 asks, in its order
+-- Receiving: what 01 asks, in its order, then 02, Q-1
 unfoldable pub receiving-rules : Settings → List Test
 receiving-rules s =
     -- "padding zero"
@@ -82,6 +83,8 @@ receiving-rules s =
     -- "if code bit 31 is clear, bits 28 to 11 of code and mask zero"
     ∷ StandardCode unless (is-extended (s .code) || eqb (bitAnd (s .code) extended-only) 0)
     ∷ StandardMask unless (is-extended (s .code) || eqb (bitAnd (s .mask) extended-only) 0)
+    -- "if bits 28 to 0 of its code have a one where the mask has a zero"
+    ∷ StrayBit unless within-mask (s .code) (s .mask)
     ∷ []
 
 -- A record in its order, by what it says

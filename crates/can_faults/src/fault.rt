@@ -23,6 +23,7 @@ pub enum Rule {
     MaskBits,
     StandardCode,
     StandardMask,
+    StrayBit,
 }
 
 // The first rule that is broken, and by which object's record; 0 where it is a rule of the header or of the whole.

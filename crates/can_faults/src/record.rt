@@ -18,6 +18,7 @@ use can_frame::length::LONGEST_CLASSIC;
 use can_frame::length::LONGEST_FD;
 use can_frame::settings::CODE_UNUSED;
 use can_frame::settings::MASK_UNUSED;
+use can_frame::settings::within_mask;
 use can_state::settings::Settings;
 use core_places::owner::Owner;
 use core_places::owner::owner_valid;
@@ -54,6 +55,9 @@ fn receiving_rule(s: Settings) -> Rule
     }
     if !(extended | (s.mask & EXTENDED_ONLY == 0)) {
         return Rule::StandardMask;
+    }
+    if !within_mask(s.code, s.mask) {
+        return Rule::StrayBit;
     }
     Rule::Accepted
 }

@@ -1,4 +1,4 @@
--- Classic and FD frames. 01, "Identifiers and lengths", and the 72 bytes of an object.
+-- Classic and FD frames. 01, "Identifiers and lengths", and the 72 bytes of an object; 02, Q-1.
 use Prim.Native.Nat.{ℕ, _+_, _-_, _/_, _%_, _^_}
 use mathlib.Core.Bool.{Bool, not, cond, _&&_, _||_}
 use mathlib.Core.List.{List, [], _∷_, _++_}
@@ -6,6 +6,7 @@ use lib.ListN.{length, getD, replicate}
 use lib.Dec.{eqb, ltb, leb}
 use lib.Bits.{bitAnd}
 use Rattle.rules.specs.Limits.{Limits, ram-size, object-start}
+use Rattle.rules.specs.Repeat.{all-below}
 use Rattle.rules.specs.Bytes.{big-endian, number, part}
 use Rattle.rules.specs.Reason.{Check, _if_, CAN-E-PARAM-DATA-LENGTH, BAD-IDENTIFIER, BAD-LENGTH}
 use Rattle.rules.specs.Format.{Format}
@@ -24,12 +25,16 @@ pub record Settings : Type 0 where
 
 -- Identifiers
 
+-- bit k of a number is a one
+abbrev pub has-bit : ℕ → ℕ → Bool
+has-bit k x = eqb (x / 2 ^ k % 2) 1
+
 -- "Bit 31 marks an extended identifier, bit 30 an FD frame."
 abbrev pub is-extended : ℕ → Bool
 is-extended identifier = eqb (identifier / 2 ^ 31) 1
 
 abbrev pub is-fd : ℕ → Bool
-is-fd identifier = eqb (identifier / 2 ^ 30 % 2) 1
+is-fd identifier = has-bit 30 identifier
 
 -- bits 28 to 11, which only an extended identifier may use
 abbrev pub extended-only : ℕ
@@ -92,13 +97,27 @@ filter-accepts identifier code mask payload =
 abbrev pub sending-valid : Settings → Bool
 sending-valid s = eqb (s .code) 0 && eqb (s .mask) 0
 
--- "padding zero; code bits 30 and 29 zero; mask bits 31 to 29 zero; if code bit 31 is clear, bits 28 to 11 of code and mask zero"
+-- how many bits an extended identifier has: "bits 28 to 0"
+abbrev pub identifier-bits : ℕ
+identifier-bits = 29
+
+-- 02's stray bit: the code has "a one where the mask has a zero"
+abbrev pub stray-at : ℕ → ℕ → ℕ → Bool
+stray-at code mask k = has-bit k code && not (has-bit k mask)
+
+-- no stray bit: 02, Q-1, bad "if bits 28 to 0 of its code have a one where the mask has a zero"
+abbrev pub within-mask : ℕ → ℕ → Bool
+within-mask code mask = all-below identifier-bits (λ k. not (stray-at code mask k))
+
+-- "padding zero; code bits 30 and 29 zero; mask bits 31 to 29 zero; if code bit 31 is clear, bits 28 to 11 of code and mask zero";
+-- and no stray bit
 abbrev pub receiving-valid : Settings → Bool
 receiving-valid s =
     eqb (s .padding) 0
     && eqb (bitAnd (s .code) 0x60000000) 0
     && eqb (bitAnd (s .mask) 0xE0000000) 0
     && (is-extended (s .code) || eqb (bitAnd (s .code) extended-only) 0 && eqb (bitAnd (s .mask) extended-only) 0)
+    && within-mask (s .code) (s .mask)
 
 abbrev pub settings-valid : Bool → Settings → Bool
 settings-valid receiving s =

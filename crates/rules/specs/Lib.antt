@@ -34,6 +34,7 @@
 --   controllers, objects n       controller-count, object-count       in the bytes controllers-byte and objects-byte
 --   payload, padding value       payload, padding                     of Settings
 --   filter code, filter mask     code, mask                           of Settings too
+--   stray bit (02, Q-1)          stray-at                             a one of the code where the mask has a zero; without any: within-mask
 --   one that Init accepts        configuration-valid                  once it is read: configuration-of
 --   bad configuration            not accepted-bytes
 --

@@ -3,7 +3,7 @@ use crate::out::number;
 use crate::out::text;
 
 // Configuration K.
-const K: [u8; 32] = [
+pub const K: [u8; 32] = [
     0x43,
     0x48,
     0x42,
@@ -41,7 +41,7 @@ const K: [u8; 32] = [
 // Where the records of K's two objects begin.
 const SENDING: usize = 8;
 
-const RECEIVING: usize = 20;
+pub const RECEIVING: usize = 20;
 
 // Prints what the reader makes of the bytes.
 fn show(name: &[u8], bytes: &[u8]) {
@@ -123,10 +123,29 @@ pub fn records() {
     changed(b"receiving: padding 1", RECEIVING + 3, 1);
     changed(b"receiving: code bit 30", RECEIVING + 4, 0x40);
     changed(b"receiving: code bit 29", RECEIVING + 4, 0x20);
-    changed(b"receiving: code bit 28, standard", RECEIVING + 4, 0x10);
-    changed(b"receiving: code bit 11, standard", RECEIVING + 6, 0x09);
+    changed_twice(
+        b"receiving: code and mask bit 28, standard",
+        RECEIVING + 4,
+        0x10,
+        RECEIVING + 8,
+        0x10,
+    );
+    changed_twice(
+        b"receiving: code and mask bit 11, standard",
+        RECEIVING + 6,
+        0x09,
+        RECEIVING + 10,
+        0x0F,
+    );
     changed(b"receiving: code bit 10, standard", RECEIVING + 6, 0x05);
     changed(b"receiving: code bit 31", RECEIVING + 4, 0x80);
+    changed_twice(
+        b"receiving: code bits 31 and 28, mask bit 28",
+        RECEIVING + 4,
+        0x90,
+        RECEIVING + 8,
+        0x10,
+    );
     changed(b"receiving: code bits 31 and 28", RECEIVING + 4, 0x90);
     changed(b"receiving: code bits 31 and 30", RECEIVING + 4, 0xC0);
     changed(b"receiving: code bits 31 and 29", RECEIVING + 4, 0xA0);
@@ -135,7 +154,8 @@ pub fn records() {
     changed(b"receiving: mask bit 29", RECEIVING + 8, 0x20);
     changed(b"receiving: mask bit 28, standard", RECEIVING + 8, 0x10);
     changed(b"receiving: mask bit 11, standard", RECEIVING + 10, 0x0F);
-    changed(b"receiving: mask bit 10, standard", RECEIVING + 10, 0x04);
+    changed(b"receiving: mask bit 10, standard", RECEIVING + 10, 0x05);
+    changed(b"receiving: mask without code bit 8", RECEIVING + 10, 0x04);
     changed_twice(
         b"receiving: mask bit 28, extended",
         RECEIVING + 4,

@@ -1,5 +1,7 @@
-// Runs the paper's examples over the leaves and prints what they answer. The file stdout beside src/ is what they must answer.
+// Runs the papers' examples over the leaves, and filters through Init and a call, and prints what they answer. The file stdout beside src/ is
+// what they must answer.
 mod configurations;
+mod filters;
 mod frames;
 mod out;
 
@@ -9,4 +11,5 @@ fn main() {
     configurations::header();
     configurations::records();
     configurations::sizes();
+    filters::stray_bits();
 }

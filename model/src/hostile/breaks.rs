@@ -151,11 +151,19 @@ pub fn standard_bits(rng: &mut Rng, raw: &mut Raw) -> Option<()> {
     let standard = |h: usize| raw.objects[h].receiving && raw.objects[h].code & EXTENDED == 0;
     let h = place(rng, raw.object_count as usize, standard)?;
     let bit = 1 << rng.between(11, 28);
+    raw.objects[h].mask |= bit;
     if rng.percent(50) {
         raw.objects[h].code |= bit;
-    } else {
-        raw.objects[h].mask |= bit;
     }
+    Some(())
+}
+
+pub fn stray_bit(rng: &mut Rng, raw: &mut Raw) -> Option<()> {
+    let h = object(rng, raw, true)?;
+    let extended = raw.objects[h].code & EXTENDED != 0;
+    let bit = 1 << rng.below(if extended { 29 } else { 11 });
+    raw.objects[h].code |= bit;
+    raw.objects[h].mask &= !bit;
     Some(())
 }
 

@@ -32,7 +32,7 @@ const fn rule(wrong: &'static str, breaks: Break) -> Rule {
 }
 
 /// Every rule.
-pub const RULES: [Rule; 26] = [
+pub const RULES: [Rule; 27] = [
     rule("uninitialised, but configured", uninitialised),
     rule("uninitialised, but a count is not zero", uninitialised_count),
     rule("uninitialised, but a controller is not at rest", uninitialised_controller),
@@ -48,6 +48,7 @@ pub const RULES: [Rule; 26] = [
     rule("code bit 30 or 29 set", code_bits),
     rule("mask bit 31, 30 or 29 set", mask_bits),
     rule("a standard filter with bits above 10", standard_bits),
+    rule("a code bit outside the mask", stray_bit),
     rule("mode 0 on a configured controller", mode_uninit),
     rule("a mode above 3", mode_unknown),
     rule("a request that is not permitted", request),

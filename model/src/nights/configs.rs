@@ -57,14 +57,14 @@ fn filter(rng: &mut Rng) -> (u32, u32) {
         2 => 0x7F0,
         _ => u32::MAX,
     };
-    (code & bits | if extended { EXTENDED } else { 0 }, mask & bits)
+    (code & mask & bits | if extended { EXTENDED } else { 0 }, mask & bits)
 }
 
 /// A good configuration with one thing broken (now and then it stays good).
 pub fn broken(rng: &mut Rng) -> Vec<u8> {
     let mut bytes = good(rng);
     let objects = usize::from(bytes[6]);
-    match rng.below(if objects > 0 { 12 } else { 7 }) {
+    match rng.below(if objects > 0 { 13 } else { 7 }) {
         0 => flip(rng, &mut bytes, 0, 5),
         1 => bytes[5] = rng.pick([0, 5, 6, 128, 255]),
         2 => bytes[6] = rng.pick([0, 1, 31, 32, 33, 64, 255]),
@@ -87,8 +87,19 @@ fn break_record(rng: &mut Rng, record: &mut [u8], field: usize) {
         8 => record[1] = rng.pick([0, 1, 2, 3, 128, 255]),
         9 => record[2] = rng.pick([0, 1, 7, 9, 16, 63, 65, 72, 128, 255]),
         10 => record[3] = rng.byte(),
+        11 => stray(rng, record),
         _ => flip(rng, record, 4, 8),
     }
+}
+
+/// Sets a bit of the code and clears it in the mask; only a receiving record has a filter.
+fn stray(rng: &mut Rng, record: &mut [u8]) {
+    let extended = record[4] & 0x80 != 0;
+    let bit = rng.below(if extended { 29 } else { 11 });
+    record[1] = RECEIVING;
+    record[3] = 0;
+    record[7 - bit / 8] |= 1 << (bit % 8);
+    record[11 - bit / 8] &= !(1 << (bit % 8));
 }
 
 /// Flips one bit among `count` bytes from `start` on.
