@@ -9,7 +9,7 @@ use Rattle.laws.proofs.Tests.{and-false}
 use Rattle.can_faults.specs.Stray.{highest-below, StrayRule}
 
 module _ (p : ℕ → Bool) where
-  -- the number below n is the highest, or it is among those below it
+  -- what is found below n is n - 1, if the test holds of it, and else what is found below n - 1
   pub highest-step : (n : ℕ) → 0 < n → highest-below n p ≡ cond (p (n - 1)) (n - 1) (highest-below (n - 1) p)
   unfolding highest-below
   highest-step zero above = absurd (omega arith)
