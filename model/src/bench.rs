@@ -16,6 +16,8 @@ pub enum Answer {
     Mode(u32),
     Object(u32),
     Arrival(Arrival),
+    /// Who sends next, if anyone.
+    Next(Option<u32>),
 }
 
 /// What came of a command.
@@ -31,6 +33,8 @@ pub enum Played<'a> {
     Show(Option<&'a [u8]>),
     /// The whole state.
     State(&'a State),
+    /// What the writer wrote, nothing with a no.
+    Config { code: u32, reason: u32, bytes: &'a [u8] },
 }
 
 /// The desk bench. It keeps its own 2,304 bytes and lends as many as asked for.
@@ -44,6 +48,8 @@ pub struct Bench {
     sheet_lent: usize,
     /// Holds a lent memory that is longer than the bench's own.
     long_memory: Vec<u8>,
+    /// The buffer of the writer.
+    room: Vec<u8>,
 }
 
 impl Default for Bench {
@@ -56,6 +62,7 @@ impl Default for Bench {
             sheet: vec![0; LONGEST_SHEET as usize],
             sheet_lent: SHEET_WORDS,
             long_memory: Vec::new(),
+            room: Vec::new(),
         }
     }
 }
@@ -91,19 +98,29 @@ impl Bench {
         match command {
             Command::Call(call) => return Ok(self.play_lent(call)),
             Command::InitInWords => {
-                let bytes = self.draft.bytes().to_vec();
+                let bytes = self.draft.bytes();
                 return Ok(self.play_lent(Call::Init { bytes: &bytes }));
             }
             Command::Show { object } => {
                 return Ok(Played::Show(mailbox::object_bytes(&self.memory, object)));
             }
             Command::State => return Ok(Played::State(&self.state)),
+            Command::Config { version, room } => return Ok(self.write_config(version, room)),
             Command::Controllers { count } => self.draft = Draft::of(count),
-            Command::Object { record } => self.draft.add(&record)?,
+            Command::Object(object) => self.draft.add(&object)?,
             Command::Sheet { words } => self.sheet_lent = words,
             Command::Memory { bytes } => self.memory_lent = bytes,
         }
         Ok(Played::Nothing)
+    }
+
+    /// Writes the state's configuration into a buffer of so many bytes.
+    fn write_config(&mut self, version: u32, room: usize) -> Played<'_> {
+        self.room.clear();
+        self.room.resize(room, 0);
+        let outcome = Outcome::silent(self.state.config.write(version, &mut self.room));
+        let bytes = &self.room[..outcome.result.unwrap_or(0)];
+        Played::Config { code: outcome.code(), reason: outcome.reason(), bytes }
     }
 
     /// Plays one call with the sheet and memory lent at present.
@@ -147,6 +164,11 @@ pub fn play_call<'a>(
             let outcome = state.arrived(controller, identifier, data, sheet, memory);
             let answer = outcome.result.map_or(Answer::None, Answer::Arrival);
             answered("arrived", outcome, answer, sheet)
+        }
+        Call::Next { controller } => {
+            let outcome = state.next_to_send(controller, memory);
+            let answer = outcome.result.map_or(Answer::None, Answer::Next);
+            answered("next", outcome, answer, sheet)
         }
         Call::Data { object } => Played::Data(mailbox::data_of(memory, object)),
     }

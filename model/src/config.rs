@@ -1,10 +1,10 @@
-//! Configuration bytes and what they say ("Configuration bytes"; 02, Q-1).
+//! Configuration bytes and what they say ("Configuration bytes"; 02, Q-1 and Q-2).
 
 use crate::identifier::{EXTENDED, EXTENDED_ONLY, FD, SPARE};
 use crate::limits::{CONTROLLERS, OBJECTS};
+use crate::version::Version;
 
-/// The three bytes "CHB", then version 00 01.
-pub(crate) const START: [u8; 5] = [0x43, 0x48, 0x42, 0x00, 0x01];
+const START_BYTES: usize = 5;
 const HEADER_BYTES: usize = 8;
 const RECORD_BYTES: usize = 12;
 
@@ -21,6 +21,8 @@ pub enum Kind {
 pub struct ObjectConfig {
     pub controller: u8,
     pub kind: Kind,
+    /// The pool of a sending object; 0 where it receives.
+    pub pool: u8,
     pub payload: u8,
     pub padding: u8,
     pub code: u32,
@@ -28,19 +30,27 @@ pub struct ObjectConfig {
 }
 
 impl ObjectConfig {
-    /// Decodes one record of 12 bytes; only an unknown kind cannot be decoded.
-    fn decode(record: &[u8]) -> Option<ObjectConfig> {
+    /// Decodes the record of 12 bytes of this object; only an unknown kind cannot
+    /// be decoded.
+    fn decode(record: &[u8], version: Version, object: u8) -> Option<ObjectConfig> {
         let kind = match record[1] {
             0 => Kind::Sending,
             1 => Kind::Receiving,
             _ => return None,
         };
+        let code = big_endian(&record[4..8]);
+        let (pool, code) = match (kind, version) {
+            (Kind::Sending, Version::One) => (object, code),
+            (Kind::Sending, Version::Two) => (record[7], code & !0xFF),
+            (Kind::Receiving, _) => (0, code),
+        };
         Some(ObjectConfig {
             controller: record[0],
             kind,
+            pool,
             payload: record[2],
             padding: record[3],
-            code: big_endian(&record[4..8]),
+            code,
             mask: big_endian(&record[8..12]),
         })
     }
@@ -48,8 +58,8 @@ impl ObjectConfig {
     /// The rules for one record, given the number of controllers.
     fn is_acceptable(&self, controllers: u8) -> bool {
         let own_rules = match self.kind {
-            Kind::Sending => self.code == 0 && self.mask == 0,
-            Kind::Receiving => self.padding == 0 && self.filter_is_acceptable(),
+            Kind::Sending => usize::from(self.pool) < OBJECTS && self.code == 0 && self.mask == 0,
+            Kind::Receiving => self.pool == 0 && self.padding == 0 && self.filter_is_acceptable(),
         };
         self.controller < controllers && matches!(self.payload, 8 | 64) && own_rules
     }
@@ -82,17 +92,23 @@ pub struct Config {
 impl Config {
     /// Reads configuration bytes; `None` is a bad configuration (reason 9).
     pub fn read(bytes: &[u8]) -> Option<Config> {
+        Config::read_with_version(bytes).map(|(_, config)| config)
+    }
+
+    /// The same, with the version in which the bytes say it.
+    pub fn read_with_version(bytes: &[u8]) -> Option<(Version, Config)> {
         let (header, records) = bytes.split_at_checked(HEADER_BYTES)?;
+        let version = Version::of_start(&header[..START_BYTES])?;
         let (controllers, objects) = (header[5], header[6]);
-        let length = RECORD_BYTES * usize::from(objects);
-        if header[..5] != START || header[7] != 0 || records.len() != length {
+        if header[7] != 0 || records.len() != RECORD_BYTES * usize::from(objects) {
             return None;
         }
         let mut config = Config { controllers, objects, ..Config::default() };
-        for (place, record) in config.places.iter_mut().zip(records.chunks_exact(RECORD_BYTES)) {
-            *place = ObjectConfig::decode(record)?;
+        let places = (0..).zip(&mut config.places);
+        for ((object, place), record) in places.zip(records.chunks_exact(RECORD_BYTES)) {
+            *place = ObjectConfig::decode(record, version, object)?;
         }
-        config.is_acceptable().then_some(config)
+        config.is_acceptable().then_some((version, config))
     }
 
     /// One of these numbers, acceptable or not.
@@ -100,12 +116,14 @@ impl Config {
         Config { controllers, objects, places }
     }
 
-    /// One that Init accepts: counts in range, every record good, unused places at rest.
+    /// One that Init accepts: counts in range, every record good, pools that
+    /// agree, unused places at rest.
     pub fn is_acceptable(&self) -> bool {
         let count = usize::from(self.objects);
         (1..=CONTROLLERS).contains(&usize::from(self.controllers))
             && count <= OBJECTS
             && self.places[..count].iter().all(|place| place.is_acceptable(self.controllers))
+            && self.pools_agree()
             && self.places[count..].iter().all(|place| *place == ObjectConfig::default())
     }
 
@@ -195,8 +213,20 @@ mod tests {
     fn every_wrong_byte_of_the_fixed_header_is_bad() {
         for at in [0, 1, 2, 3, 4, 7] {
             for byte in 0..=255 {
-                assert_eq!(accepted(&k_with(at, byte)), byte == K[at], "byte {at} = {byte}");
+                // K has one sending object: pool 0 in both versions.
+                let good = byte == K[at] || at == 4 && byte == 2;
+                assert_eq!(accepted(&k_with(at, byte)), good, "byte {at} = {byte}");
             }
+        }
+    }
+
+    #[test]
+    fn other_versions_are_bad() {
+        for version in 0..=u16::MAX {
+            let [high, low] = version.to_be_bytes();
+            let mut bytes = K.to_vec();
+            bytes[3..5].copy_from_slice(&[high, low]);
+            assert_eq!(accepted(&bytes), version == 1 || version == 2, "version {version}");
         }
     }
 
@@ -276,6 +306,98 @@ mod tests {
         }
     }
 
+    /// Sending objects of version 2: controller, payload, padding and pool of each.
+    fn pooled(objects: &[[u8; 4]]) -> Vec<u8> {
+        let mut bytes = vec![0x43, 0x48, 0x42, 0, 2, 2, objects.len() as u8, 0];
+        for &[controller, payload, padding, pool] in objects {
+            bytes.extend([controller, 0, payload, padding, 0, 0, 0, pool, 0, 0, 0, 0]);
+        }
+        bytes
+    }
+
+    /// The pool of each object in use.
+    fn pools(bytes: &[u8]) -> Vec<u8> {
+        let config = Config::read(bytes).expect("good bytes");
+        config.objects().iter().map(|object| object.pool).collect()
+    }
+
+    #[test]
+    fn in_version_1_each_sending_object_is_its_own_pool() {
+        assert_eq!(pools(&counts(4, 32)), (0..32).collect::<Vec<u8>>());
+        assert_eq!(pools(&K), [0, 0]);
+        let mut bytes = counts(1, 3);
+        bytes[8 + 12 + 1] = 1;
+        bytes[8 + 12 + 3] = 0;
+        assert_eq!(pools(&bytes), [0, 0, 2], "a receiving object has pool 0");
+    }
+
+    #[test]
+    fn in_version_2_the_last_byte_of_the_code_is_the_pool() {
+        for pool in 0..=255 {
+            assert_eq!(accepted(&pooled(&[[0, 8, 0, pool]])), pool < 32, "pool {pool} of 1");
+        }
+        let sparse = pooled(&[[0, 8, 1, 31], [1, 64, 2, 7], [0, 8, 1, 31], [0, 8, 1, 0]]);
+        assert_eq!(pools(&sparse), [31, 7, 31, 0]);
+        let mut k = k_with(4, 2);
+        assert_eq!(pools(&k), [0, 0]);
+        k[15] = 9;
+        assert_eq!(pools(&k), [9, 0]);
+        assert_eq!(Config::read(&k).map(|config| config.places[0].code), Some(0));
+    }
+
+    #[test]
+    fn other_code_and_mask_bytes_of_a_sending_object_are_zero_in_version_2() {
+        for at in (12..15).chain(16..20) {
+            for bit in 0..8 {
+                let mut bytes = k_with(at, 1 << bit);
+                bytes[4] = 2;
+                assert!(!accepted(&bytes), "byte {at} bit {bit}");
+            }
+        }
+    }
+
+    #[test]
+    fn members_of_a_pool_agree_in_controller_payload_and_padding() {
+        let with = |other: [u8; 4]| accepted(&pooled(&[[1, 8, 5, 3], [0, 64, 9, 4], other]));
+        assert!(with([1, 8, 5, 3]));
+        assert!(!with([0, 8, 5, 3]), "one pool number on two controllers");
+        assert!(!with([1, 64, 5, 3]), "two payloads");
+        assert!(!with([1, 8, 6, 3]), "two paddings");
+        assert!(with([0, 64, 9, 4]));
+        assert!(!with([1, 8, 5, 4]));
+        assert!(with([0, 64, 6, 5]));
+        // Version 1 bytes that are read as version 2 have all objects in pool 0.
+        let mut all = counts(4, 32);
+        all[4] = 2;
+        assert!(accepted(&all));
+        all[8 + 12 * 31 + 3] ^= 1;
+        assert!(!accepted(&all));
+        all[4] = 1;
+        assert!(accepted(&all));
+    }
+
+    #[test]
+    fn receiving_objects_are_in_no_pool() {
+        let mut bytes = pooled(&[[0, 8, 5, 0], [0, 8, 5, 0]]);
+        bytes.extend([1, 1, 64, 0, 0, 0, 1, 0x20, 0, 0, 7, 0xFF]);
+        bytes[6] = 3;
+        assert_eq!(pools(&bytes), [0, 0, 0]);
+        assert_eq!(Config::read(&bytes).map(|config| config.places[2].code), Some(0x120));
+    }
+
+    #[test]
+    fn both_versions_say_the_same_where_pools_are_own_numbers() {
+        let one = counts(4, 32);
+        let mut two = one.clone();
+        two[4] = 2;
+        for object in 0..32 {
+            two[8 + 12 * object + 7] = object as u8;
+        }
+        let read = |bytes| Config::read_with_version(bytes).expect("good bytes");
+        assert_eq!(read(&one).1, read(&two).1);
+        assert_eq!((read(&one).0, read(&two).0), (Version::One, Version::Two));
+    }
+
     #[test]
     fn standard_filters_use_bits_10_to_0() {
         for bit in 0..32 {
@@ -334,5 +456,11 @@ mod tests {
         let mut config = Config::read(&K).expect("K is accepted");
         config.places[31].payload = 8;
         assert!(!config.is_acceptable(), "an unused place is not at rest");
+        config.places[31] = ObjectConfig { pool: 31, ..ObjectConfig::default() };
+        assert!(!config.is_acceptable(), "an unused place has a pool");
+        config.places[31] = ObjectConfig::default();
+        assert!(config.is_acceptable());
+        config.places[1].pool = 1;
+        assert!(!config.is_acceptable(), "a receiving object has a pool");
     }
 }

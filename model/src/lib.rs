@@ -3,6 +3,7 @@
 //! The paper's words are kept: a *sheet* is the lent run of notice words, the
 //! *memory* is the lent mailbox memory, a *no* is a refused call.
 
+pub mod arbitration;
 pub mod bench;
 pub mod compare;
 pub mod config;
@@ -21,8 +22,11 @@ pub mod nights;
 pub mod notice;
 pub mod outcome;
 pub mod polls;
+pub mod pool;
 pub mod rounds;
 pub mod script;
 pub mod services;
 pub mod state;
+pub mod version;
 pub mod words;
+pub mod writer;

@@ -3,7 +3,7 @@
 /// The reason for a no; the numbers are the paper's.
 #[derive(Clone, Copy, Debug, PartialEq, Eq)]
 pub enum Reason {
-    /// CAN_E_PARAM_HANDLE: not a configured sending object.
+    /// CAN_E_PARAM_HANDLE: not a configured sending object, or one that does not name its pool.
     Handle = 2,
     /// CAN_E_PARAM_DATA_LENGTH: the data do not fit.
     DataLength = 3,
@@ -15,7 +15,7 @@ pub enum Reason {
     Transition = 6,
     /// CAN_E_INIT_FAILED: bad configuration.
     InitFailed = 9,
-    /// Sheet shorter than 144 words.
+    /// Sheet shorter than 144 words, or the writer's buffer too short.
     ShortSheet = 32,
     /// Memory not 2,304 bytes.
     MemoryLength = 33,
@@ -23,7 +23,7 @@ pub enum Reason {
     Identifier = 34,
     /// Controller not STARTED.
     NotStarted = 35,
-    /// Object occupied (CAN_BUSY).
+    /// No member of the pool is free (CAN_BUSY).
     Occupied = 36,
     /// Controller marked off-bus.
     OffBus = 37,

@@ -2,7 +2,7 @@
 
 use std::fmt;
 
-use crate::draft::{self, Record};
+use crate::draft::{self, DraftObject};
 use crate::identifier::Identifier;
 
 /// The longest sheet a script may lend, in words.
@@ -11,21 +11,37 @@ pub const LONGEST_SHEET: u32 = 4096;
 /// The longest memory a script may lend, in bytes.
 pub const LONGEST_MEMORY: u32 = 16_384;
 
+/// The most room a script may give the writer, in bytes.
+pub const MOST_ROOM: u32 = 4096;
+
 /// One command of a script: a call, or a wish to the bench itself.
 /// `InitInWords` is Init with the configuration that `Controllers` and `Object` say.
 #[derive(Clone, Copy, Debug, PartialEq, Eq)]
 pub enum Command<'a> {
     Call(Call<'a>),
     InitInWords,
-    Controllers { count: u8 },
-    Object { record: Record },
-    Sheet { words: usize },
-    Memory { bytes: usize },
-    Show { object: u32 },
+    Controllers {
+        count: u8,
+    },
+    Object(DraftObject),
+    Sheet {
+        words: usize,
+    },
+    Memory {
+        bytes: usize,
+    },
+    Show {
+        object: u32,
+    },
     State,
+    /// Writes the state's configuration in a version.
+    Config {
+        version: u32,
+        room: usize,
+    },
 }
 
-/// A service, a poll, an event, or the data of an object.
+/// A service, a poll, an event, the choice of who sends next, or the data of an object.
 #[derive(Clone, Copy, Debug, PartialEq, Eq)]
 pub enum Call<'a> {
     Init { bytes: &'a [u8] },
@@ -37,6 +53,7 @@ pub enum Call<'a> {
     Sent { object: u32 },
     BusOff { controller: u32 },
     Arrived { controller: u32, identifier: Identifier, data: &'a [u8] },
+    Next { controller: u32 },
     Data { object: u32 },
 }
 
@@ -70,6 +87,7 @@ pub enum Trouble {
     HandleTooLarge,
     SheetTooLong,
     MemoryTooLong,
+    RoomTooLarge,
     DoesNotFitAByte,
     TooManyObjects,
 }
@@ -95,6 +113,7 @@ impl fmt::Display for Trouble {
             Trouble::HandleTooLarge => "handle too large",
             Trouble::SheetTooLong => "sheet too long",
             Trouble::MemoryTooLong => "memory too long",
+            Trouble::RoomTooLarge => "room too large",
             Trouble::DoesNotFitAByte => "does not fit a byte",
             Trouble::TooManyObjects => "too many objects",
         })
@@ -128,7 +147,7 @@ pub fn read<'a>(line: &[u8], bytes: &'a mut Vec<u8>) -> Result<Option<Command<'a
         return Ok(None);
     };
     if name == b"object" {
-        return Ok(Some(Command::Object { record: draft::object(words)? }));
+        return Ok(Some(Command::Object(draft::object(words)?)));
     }
     let arguments = arguments_of(name).ok_or(Trouble::UnknownCommand)?;
     let mut places = [&[][..]; MOST_ARGUMENTS];
@@ -154,9 +173,9 @@ pub fn words(line: &[u8]) -> impl Iterator<Item = &[u8]> + Clone {
 fn arguments_of(name: &[u8]) -> Option<Arguments> {
     let (single, last) = match name {
         b"deinit" | b"state" => (0, Last::Nothing),
-        b"get" | b"poll" | b"sent" | b"busoff" | b"data" | b"sheet" | b"memory" | b"show"
-        | b"controllers" => (1, Last::Nothing),
-        b"set" => (2, Last::Nothing),
+        b"get" | b"poll" | b"sent" | b"busoff" | b"next" | b"data" | b"sheet" | b"memory"
+        | b"show" | b"controllers" => (1, Last::Nothing),
+        b"set" | b"config" => (2, Last::Nothing),
         b"init" => (0, Last::BytesOrNothing),
         b"arrived" => (2, Last::Bytes),
         b"write" => (3, Last::Bytes),
@@ -172,7 +191,7 @@ fn command<'a, 'w>(
     rest: impl Iterator<Item = &'w [u8]> + Clone,
     bytes: &'a mut Vec<u8>,
 ) -> Result<Command<'a>, Trouble> {
-    let first = places[0];
+    let [first, second, _] = places;
     Ok(match name {
         b"controllers" => Command::Controllers { count: byte(first)? },
         b"sheet" => Command::Sheet { words: limited(first, LONGEST_SHEET, Trouble::SheetTooLong)? },
@@ -181,6 +200,10 @@ fn command<'a, 'w>(
         }
         b"show" => Command::Show { object: number(first)? },
         b"state" => Command::State,
+        b"config" => Command::Config {
+            version: number(first)?,
+            room: limited(second, MOST_ROOM, Trouble::RoomTooLarge)?,
+        },
         _ => Command::Call(call(name, places, rest, bytes)?),
     })
 }
@@ -211,6 +234,7 @@ fn call<'a, 'w>(
             identifier: identifier(second)?,
             data: hex_bytes(rest, bytes)?,
         },
+        b"next" => Call::Next { controller: number(first)? },
         b"data" => Call::Data { object: number(first)? },
         _ => return Err(Trouble::UnknownCommand),
     })
@@ -373,7 +397,14 @@ mod tests {
         reads_command("init", Command::InitInWords);
         reads_command("controllers 0xFF", Command::Controllers { count: 255 });
         let record = [1, 0, 64, 0xCC, 0, 0, 0, 0, 0, 0, 0, 0];
-        reads_command("object send controller 1 payload 64 padding CC", Command::Object { record });
+        reads_command(
+            "object send controller 1 payload 64 padding CC",
+            Command::Object(DraftObject { record, pool: None }),
+        );
+        reads_command(
+            "object send controller 1 payload 64 padding CC pool 031",
+            Command::Object(DraftObject { record, pool: Some(31) }),
+        );
         reads("deinit", Call::DeInit);
         reads("set 0 STARTED", Call::Set { controller: 0, mode: 1 });
         reads("set 1 STOPPED", Call::Set { controller: 1, mode: 2 });
@@ -399,11 +430,14 @@ mod tests {
             "arrived 0 0x120 -",
             Call::Arrived { controller: 0, identifier: Identifier(0x120), data: &[] },
         );
+        reads("next 0x3", Call::Next { controller: 3 });
         reads("data 1", Call::Data { object: 1 });
         reads_command("sheet 4096", Command::Sheet { words: 4096 });
         reads_command("memory 16384", Command::Memory { bytes: 16384 });
         reads_command("show 0xffffFFFF", Command::Show { object: u32::MAX });
         reads_command("state", Command::State);
+        reads_command("config 1 0", Command::Config { version: 1, room: 0 });
+        reads_command("config 0xFFFFFFFF 4096", Command::Config { version: u32::MAX, room: 4096 });
     }
 
     #[test]
@@ -434,6 +468,10 @@ mod tests {
         assert_eq!(trouble("poll"), Some(Trouble::WordMissing));
         assert_eq!(trouble("poll write now"), Some(Trouble::WordTooMany));
         assert_eq!(trouble("poll Write"), Some(Trouble::UnknownPoll));
+        assert_eq!(trouble("config 1"), Some(Trouble::WordMissing));
+        assert_eq!(trouble("config 1 x x"), Some(Trouble::WordTooMany));
+        assert_eq!(trouble("next"), Some(Trouble::WordMissing));
+        assert_eq!(trouble("next 0 x"), Some(Trouble::WordTooMany));
         assert_eq!(trouble("state\r"), Some(Trouble::UnknownCommand));
         assert_eq!(trouble("state \r"), Some(Trouble::WordTooMany));
     }
@@ -446,6 +484,8 @@ mod tests {
         for word in ["4294967296", "0x100000000", "99999999999999999999999"] {
             assert_eq!(trouble(&format!("get {word}")), Some(Trouble::NumberTooLarge), "{word}");
         }
+        assert_eq!(trouble("next -"), Some(Trouble::NotANumber));
+        assert_eq!(trouble("next 4294967296"), Some(Trouble::NumberTooLarge));
         reads("get 00000000004294967295", Call::Get { controller: u32::MAX });
         reads("get 0x000000000000a", Call::Get { controller: 10 });
     }
@@ -458,6 +498,10 @@ mod tests {
         assert_eq!(trouble("sheet 4294967296"), Some(Trouble::NumberTooLarge));
         assert_eq!(trouble("memory 16385"), Some(Trouble::MemoryTooLong));
         assert_eq!(trouble("memory -"), Some(Trouble::NotANumber));
+        assert_eq!(trouble("config 2 4097"), Some(Trouble::RoomTooLarge));
+        assert_eq!(trouble("config 2 4294967296"), Some(Trouble::NumberTooLarge));
+        assert_eq!(trouble("config 4294967296 4097"), Some(Trouble::NumberTooLarge));
+        assert_eq!(trouble("config x 4097"), Some(Trouble::NotANumber));
         assert_eq!(trouble("controllers 256"), Some(Trouble::DoesNotFitAByte));
         assert_eq!(trouble("controllers 4294967296"), Some(Trouble::NumberTooLarge));
         assert_eq!(trouble("controllers ff"), Some(Trouble::NotANumber));

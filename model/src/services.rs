@@ -88,8 +88,8 @@ impl State {
         Ok(self.controllers[controller].mode)
     }
 
-    /// Write (0x06): the 72 bytes are laid down whole and the object is
-    /// occupied; the answer names the object.
+    /// Write (0x06): the pool's lowest free member is occupied, its 72 bytes are
+    /// laid down whole; the answer names the member.
     pub fn write(
         &mut self,
         object: u32,
@@ -104,6 +104,7 @@ impl State {
     }
 
     /// 41, 32, 33, then 5, 2, 3, 34, 35, 36. The busy test stands before any copy.
+    /// `object` names the pool; members agree in all that is tested here.
     fn try_write(
         &mut self,
         object: u32,
@@ -117,7 +118,7 @@ impl State {
         check_sheet(sheet)?;
         check_memory(memory)?;
         self.check_initialised()?;
-        let config = self.check_sending(object)?;
+        let config = self.check_pool(object)?;
         let fd = identifier.is_fd();
         if fd && config.payload != 64 {
             return Err(Reason::DataLength);
@@ -129,15 +130,11 @@ impl State {
         if self.controllers[usize::from(config.controller)].mode != Mode::Started {
             return Err(Reason::NotStarted);
         }
-        let number = object as usize;
-        let place = &mut self.objects[number];
-        if place.occupied {
-            return Err(Reason::Occupied);
-        }
-        place.occupied = true;
+        let member = self.check_free(config.pool)?;
+        self.objects[member].occupied = true;
         let padding = config.padding;
-        Frame { identifier, wire, handle, data, padding }.lay_down(memory, number);
-        Ok(object)
+        Frame { identifier, wire, handle, data, padding }.lay_down(memory, member);
+        Ok(member as u32)
     }
 }
 

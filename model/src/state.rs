@@ -190,6 +190,34 @@ mod tests {
     }
 
     #[test]
+    fn pools_of_a_sound_state() {
+        let rest = ObjectConfig::default();
+        let sending = |pool| ObjectConfig { pool, payload: 8, padding: 0x55, ..rest };
+        let receiving = ObjectConfig { kind: Kind::Receiving, payload: 8, ..rest };
+        let holding = |first, second, unused| {
+            let mut places = [rest; OBJECTS];
+            places[..3].copy_from_slice(&[first, second, unused]);
+            State::configured(Config::of(2, 2, places)).is_sound()
+        };
+        assert!(holding(sending(0), sending(1), rest));
+        assert!(holding(sending(31), sending(31), rest));
+        assert!(holding(sending(7), receiving, rest));
+        assert!(!holding(sending(32), receiving, rest));
+        assert!(!holding(sending(31), sending(255), rest));
+        assert!(!holding(sending(7), ObjectConfig { pool: 7, ..receiving }, rest));
+        assert!(!holding(sending(7), sending(8), ObjectConfig { pool: 9, ..rest }));
+        for other in [
+            ObjectConfig { controller: 1, ..sending(7) },
+            ObjectConfig { payload: 64, ..sending(7) },
+            ObjectConfig { padding: 0x56, ..sending(7) },
+        ] {
+            assert!(!holding(sending(7), other, rest));
+            assert!(!holding(other, sending(7), rest));
+            assert!(holding(sending(8), other, rest));
+        }
+    }
+
+    #[test]
     fn controllers() {
         assert!(!sound(|s| s.controllers[1].mode = Mode::Uninit));
         assert!(!sound(|s| s.controllers[2].mode = Mode::Stopped));

@@ -34,6 +34,13 @@ pub fn print(out: &mut Vec<u8>, line: u64, played: &Played) {
             head(out, line, "state");
             print_state(out, state);
         }
+        Played::Config { code, reason, bytes } => {
+            head(out, line, "config");
+            field(out, code);
+            field(out, reason);
+            out.push(b' ');
+            print_hex(out, bytes);
+        }
     }
     out.push(b'\n');
 }
@@ -54,7 +61,10 @@ fn head(out: &mut Vec<u8>, line: u64, name: &str) {
 pub(crate) fn print_answer(out: &mut Vec<u8>, answer: Answer) {
     match answer {
         Answer::None => out.push(b'-'),
-        Answer::Mode(number) | Answer::Object(number) => print_number(out, number.into()),
+        Answer::Mode(number) | Answer::Object(number) | Answer::Next(Some(number)) => {
+            print_number(out, number.into());
+        }
+        Answer::Next(None) => out.extend_from_slice(b"none"),
         Answer::Arrival(Arrival::Stored(object)) => {
             out.extend_from_slice(b"stored:");
             print_number(out, object.into());

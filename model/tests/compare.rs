@@ -30,13 +30,13 @@ fn a_good_bench_agrees() {
 
 #[test]
 fn a_wrong_bench_is_found_and_the_night_shrunk() {
-    let (status, said, _) = compare(&[WRONG_BENCH, "--seeds", "1..2", "--lines", "1000"]);
+    let (status, said, _) = compare(&[WRONG_BENCH, "--seeds", "1..2", "--lines", "2000"]);
     assert_eq!(status, Some(1), "{said}");
     let lines: Vec<&str> = said.lines().collect();
     assert!(lines[0].starts_with("compare: seed 1, calm: output line "), "{said}");
     assert!(lines[1].starts_with("    model: ") && lines[1].ends_with(" write 2 36 -"), "{said}");
     assert!(lines[2].starts_with("    bench: ") && lines[2].ends_with(" write 2 35 -"), "{said}");
-    assert_eq!(lines[3], "the whole night: nights 1 1000 calm");
+    assert_eq!(lines[3], "the whole night: nights 1 2000 calm");
     // Init, a request, the mode poll and two writes; then five answers of each, and the end.
     assert!(lines[4].ends_with(" trials: 5"), "{said}");
     let [.., model, _, _, _, _, _, _, bench, _] = lines[..] else { panic!("{said}") };

@@ -60,6 +60,33 @@ fn a_write_touches_its_72_bytes_only() {
 }
 
 #[test]
+fn a_write_touches_the_bytes_of_its_member_only() {
+    let (mut state, mut sheet, mut memory) = (State::default(), vec![0; 144], vec![0; 2304]);
+    let mut bytes = b"CHB\x00\x02\x01\x03\x00".to_vec();
+    for _ in 0..3 {
+        bytes.extend([0, 0, 64, 0xCC, 0, 0, 0, 31, 0, 0, 0, 0]);
+    }
+    assert_eq!(state.init(&bytes, &mut sheet, &mut memory).code(), 0);
+    assert_eq!(state.set_mode(0, 1, &mut sheet).code(), 0);
+    assert_eq!(state.poll_mode(&mut sheet, &memory).code(), 0);
+    let mut write = |state: &mut State, memory: &mut [u8], handle| {
+        state.write(0, handle, Identifier(0x123), &[1, 2], &mut sheet, memory)
+    };
+    assert_eq!(write(&mut state, &mut memory, 1), Outcome::silent(Ok(0)));
+    memory.fill(0xEE);
+    assert_eq!(write(&mut state, &mut memory, 2), Outcome::silent(Ok(1)));
+    assert!(memory[..72].iter().all(|&byte| byte == 0xEE));
+    assert_eq!(memory[72..82], [0, 0, 1, 0x23, 2, 2, 0, 2, 1, 2]);
+    assert!(memory[82..144].iter().all(|&byte| byte == 0));
+    assert!(memory[144..].iter().all(|&byte| byte == 0xEE));
+    assert_eq!(write(&mut state, &mut memory, 3), Outcome::silent(Ok(2)));
+    let (before, bytes) = (state.clone(), memory.clone());
+    let busy = write(&mut state, &mut memory, 4);
+    assert_eq!((busy.code(), busy.reason(), busy.records), (2, 36, 0));
+    assert!(state == before && memory == bytes);
+}
+
+#[test]
 fn records_are_read_from_the_memory_lent_to_that_call() {
     let (mut state, mut sheet, mut memory) = started();
     assert_eq!(state.write(0, 7, Identifier(0), &[], &mut sheet, &mut memory).code(), 0);
@@ -73,6 +100,29 @@ fn records_are_read_from_the_memory_lent_to_that_call() {
     assert_eq!(state.poll_read(&mut sheet, &other).records, 1);
     assert_eq!(sheet[..4], [2, 1, 0xEEEE_EEEE, 0xEE]);
     assert!(sheet[4..].iter().all(|&word| word == 0xABCD_EF01));
+}
+
+#[test]
+fn who_sends_next_is_read_from_the_memory_lent_to_that_call() {
+    let (mut state, mut sheet, mut memory) = (State::default(), vec![0; 144], vec![0; 2304]);
+    let mut bytes = b"CHB\x00\x01\x01\x02\x00".to_vec();
+    bytes.extend([0, 0, 8, 0, 0, 0, 0, 0, 0, 0, 0, 0].repeat(2));
+    assert_eq!(state.init(&bytes, &mut sheet, &mut memory).code(), 0);
+    assert_eq!(state.set_mode(0, 1, &mut sheet).code(), 0);
+    assert_eq!(state.poll_mode(&mut sheet, &memory).code(), 0);
+    for (object, identifier) in [(0, 2), (1, 1)] {
+        let written = state.write(object, 0, Identifier(identifier), &[], &mut sheet, &mut memory);
+        assert_eq!(written.code(), 0);
+    }
+    assert_eq!(state.next_to_send(0, &memory), Outcome::silent(Ok(Some(1))));
+    assert_eq!(state.next_to_send(0, &[0xEE; 2304]), Outcome::silent(Ok(Some(0))));
+    // Nothing of a word that is not good counts but what is compared: 2, then 1 with bit 11.
+    memory[72 + 2] = 8;
+    assert_eq!(state.next_to_send(0, &memory), Outcome::silent(Ok(Some(1))));
+    memory[72] = 0x80;
+    assert_eq!(state.next_to_send(0, &memory), Outcome::silent(Ok(Some(1))), "base 0");
+    memory[72 + 1] = 0x08;
+    assert_eq!(state.next_to_send(0, &memory), Outcome::silent(Ok(Some(0))), "base 2");
 }
 
 #[test]
@@ -100,6 +150,8 @@ fn a_state_that_is_not_sound_is_41_everywhere() {
     judge(state.bus_off(9));
     let got = state.get_mode(9, sheet);
     not_sound(got.code(), got.reason(), got.records);
+    let next = state.next_to_send(9, &[]);
+    not_sound(next.code(), next.reason(), next.records);
     let written = state.write(9, 9, identifier, &[], sheet, &mut memory);
     not_sound(written.code(), written.reason(), written.records);
     let arrived = state.arrived(9, identifier, &[], sheet, &mut memory);

@@ -1,16 +1,19 @@
 //! Random nights, judged by books that are kept apart from the model: every
-//! state is sound, the mode book agrees, and every accepted write is closed
-//! once, by a record with its own handle, its 72 bytes untouched till then.
+//! state is sound, the mode book agrees, every accepted write takes the lowest free
+//! member of the pool that it names, and is closed once, by a record with its own
+//! handle, its 72 bytes untouched till then.
 
 use std::collections::{BTreeMap, BTreeSet};
 
+use pump_model::config::{Config, Kind};
 use pump_model::mailbox;
 use pump_model::nights::{self, Maker, Style};
 
-/// A call as printed: name, code, answer and records.
+/// A call as printed: name, code, reason, answer and records.
 struct Printed {
     name: String,
     code: u32,
+    reason: u32,
     answer: String,
     records: Vec<Vec<u32>>,
 }
@@ -25,7 +28,8 @@ impl Printed {
         if matches!(name.as_str(), "?" | "data" | "show" | "state") {
             return None;
         }
-        let answer = words.nth(1)?.to_string();
+        let reason = words.next()?.parse().ok()?;
+        let answer = words.next()?.to_string();
         let rest = words.next().unwrap_or("");
         let records = rest
             .split('[')
@@ -35,7 +39,7 @@ impl Printed {
                 record.split(' ').map(|word| word.parse().expect("a number")).collect()
             })
             .collect();
-        Some(Printed { name, code, answer, records })
+        Some(Printed { name, code, reason, answer, records })
     }
 }
 
@@ -119,6 +123,8 @@ struct FrameBook {
     sent: BTreeSet<u32>,
     /// Frames stored and not yet indicated: identifier and length.
     stored: BTreeMap<u32, (u32, u32)>,
+    /// How often several frames competed for who sends next.
+    contests: usize,
 }
 
 impl FrameBook {
@@ -142,7 +148,7 @@ impl FrameBook {
             }
         }
         match printed.name.as_str() {
-            "write" => self.open_write(words, memory),
+            "write" => self.open_write(plain_number(&printed.answer), words, memory),
             "sent" => assert!(self.sent.insert(plain_number(words[1])), "sent twice"),
             "poll-write" => assert!(self.sent.is_empty(), "sent but not confirmed"),
             "poll-read" => assert!(std::mem::take(&mut self.stored).into_iter().eq(indicated)),
@@ -155,11 +161,52 @@ impl FrameBook {
         }
     }
 
-    fn open_write(&mut self, words: &[&str], memory: &[u8]) {
-        let object = plain_number(words[1]);
+    /// A write belongs to the member that it answers.
+    fn open_write(&mut self, object: u32, words: &[&str], memory: &[u8]) {
         let bytes = mailbox::object_bytes(memory, object).expect("an object");
         let earlier = self.open.insert(object, (plain_number(words[2]), bytes.to_vec()));
         assert!(earlier.is_none(), "a second write before the first was closed");
+    }
+
+    /// Judges a write by the pool that it names: it takes the lowest member that no
+    /// write has open, and is busy exactly if there is none.
+    fn judge_write(&self, printed: &Printed, words: &[&str], config: &Config) {
+        if printed.name != "write" || printed.code == 1 {
+            return;
+        }
+        let named = plain_number(words[1]);
+        let pool = config.object(named).expect("a configured object").pool;
+        let objects = (0..).zip(config.objects());
+        let members =
+            objects.filter(|(_, object)| object.kind == Kind::Sending && object.pool == pool);
+        let members: Vec<u32> = members.map(|(number, _)| number).collect();
+        assert_eq!(members.first(), Some(&named), "not the lowest of its pool");
+        let free = members.iter().find(|member| !self.open.contains_key(member));
+        let expected = free.map_or("-".to_string(), u32::to_string);
+        assert_eq!(printed.answer, expected, "members {members:?}");
+    }
+
+    /// Judges the choice of who sends next: as the bits of the frames follow each
+    /// other on the wire, a recessive 1 gives way to a dominant 0.
+    fn judge_next(&mut self, printed: &Printed, words: &[&str], config: &Config, marks: &[bool]) {
+        if printed.name != "next" {
+            return;
+        }
+        let controller = plain_number(words[1]);
+        let mut bits: Vec<(String, u32)> = Vec::new();
+        for (&object, (_, bytes)) in &self.open {
+            let place = config.object(object).expect("a configured object");
+            if u32::from(place.controller) == controller && !self.sent.contains(&object) {
+                bits.push((on_the_wire(bytes), object));
+            }
+        }
+        bits.sort();
+        if marks[controller as usize] {
+            bits.clear();
+        }
+        self.contests += usize::from(bits.len() > 1);
+        let expected = bits.first().map_or("none".to_string(), |(_, object)| object.to_string());
+        assert_eq!(printed.answer, expected, "{bits:?}");
     }
 
     /// A record of kind 1 or 7 closes a write and carries its handle.
@@ -188,8 +235,48 @@ impl FrameBook {
     }
 }
 
-/// Plays one night and keeps the books; gives how many calls were accepted and refused.
-fn judge(seed: u64, style: Style, lines: usize) -> (usize, usize) {
+/// Judges what the writer wrote by reading it, and why it did not.
+fn judge_config(printed: &Printed, words: &[&str], config: &Config) {
+    if printed.name != "config" {
+        return;
+    }
+    let (version, room) = (plain_number(words[1]), plain_number(words[2]) as usize);
+    let bytes = 8 + 12 * config.objects().len();
+    let own = (0..).zip(config.objects()).all(|(h, o)| o.kind == Kind::Receiving || o.pool == h);
+    let said = config.controllers() > 0 && (version == 2 || version == 1 && own);
+    let reason = if !said {
+        9
+    } else if room < bytes {
+        32
+    } else {
+        0
+    };
+    assert_eq!((printed.code, printed.reason), (u32::from(reason > 0), reason), "{words:?}");
+    if reason > 0 {
+        assert_eq!(printed.answer, "-");
+        return;
+    }
+    let digits = printed.answer.as_bytes().chunks(2);
+    let pairs = digits.map(|pair| std::str::from_utf8(pair).expect("plain text"));
+    let read: Vec<u8> =
+        pairs.map(|pair| u8::from_str_radix(pair, 16).expect("hex digits")).collect();
+    assert_eq!(read.len(), bytes);
+    let (read_version, read) = Config::read_with_version(&read).expect("a good configuration");
+    assert_eq!((read_version as u32, &read), (version, config));
+}
+
+/// The bits that decide who goes on sending, of the bytes of an object.
+fn on_the_wire(bytes: &[u8]) -> String {
+    let bits: String = bytes[..4].iter().map(|byte| format!("{byte:08b}")).collect();
+    match bits.strip_prefix('1') {
+        Some(rest) => format!("{}1{}", &rest[2..13], &rest[13..]),
+        None => format!("{}0", &bits[21..]),
+    }
+}
+
+/// Plays one night and keeps the books; gives how many calls were accepted and
+/// refused, and how often several frames competed.
+fn judge(seed: u64, style: Style, lines: usize) -> (usize, usize, usize) {
     let mut maker = Maker::new(seed, style);
     let mut modes = ModeBook::default();
     let mut frames = FrameBook::default();
@@ -209,34 +296,43 @@ fn judge(seed: u64, style: Style, lines: usize) -> (usize, usize) {
         let Some(printed) = Printed::read(maker.last_answer()) else {
             continue;
         };
+        judge_config(&printed, &words, &bench.state().config);
+        frames.judge_write(&printed, &words, &bench.state().config);
         if printed.code != 0 {
             no += 1;
             continue;
         }
         yes += 1;
+        frames.judge_next(&printed, &words, &bench.state().config, &modes.marks);
         modes.note(&printed.name, &words);
         frames.note(&printed, &words, bench.memory());
         for (place, mode) in bench.state().controllers.iter().zip(modes.modes) {
             assert_eq!(place.mode.number(), mode);
         }
     }
-    (yes, no)
+    (yes, no, frames.contests)
 }
 
 #[test]
 fn calm_nights_keep_the_books() {
+    let mut all = 0;
     for seed in 0..8 {
-        let (yes, no) = judge(seed, Style::Calm, 10_000);
+        let (yes, no, contests) = judge(seed, Style::Calm, 10_000);
         assert!(yes > 12 * no, "seed {seed}: {yes} accepted, {no} refused");
+        all += contests;
     }
+    assert!(all > 1000, "{all} choices of several frames");
 }
 
 #[test]
 fn wild_nights_keep_the_books() {
+    let mut all = 0;
     for seed in 100..108 {
-        let (yes, no) = judge(seed, Style::Wild, 10_000);
+        let (yes, no, contests) = judge(seed, Style::Wild, 10_000);
         assert!(yes > 1000 && no > 1000, "seed {seed}: {yes} accepted, {no} refused");
+        all += contests;
     }
+    assert!(all > 200, "{all} choices of several frames");
 }
 
 #[test]
@@ -294,20 +390,63 @@ fn answered(seeds: std::ops::Range<u64>, style: Style, lines: usize) -> Vec<(Str
     all
 }
 
+/// How many of the lines are answered like this.
+fn count(lines: &[(String, String)], answer: &str) -> usize {
+    lines.iter().filter(|(_, a)| a.starts_with(answer)).count()
+}
+
 #[test]
-fn configurations_are_said_in_words() {
-    for (style, least) in [(Style::Calm, 30), (Style::Wild, 60)] {
-        let lines = answered(0..12, style, 10_000);
-        let count = |line: &str, answer: &str| {
-            lines.iter().filter(|(l, a)| l == line && a.starts_with(answer)).count()
-        };
-        assert!(count("init", "init 0 0") > least, "{} accepted", count("init", "init 0 0"));
-        // Calm nights say good ones, at times too early.
-        let bad = count("init", "init 1 9");
-        assert!(if style == Style::Calm { bad == 0 } else { bad > 60 }, "{bad} bad ones");
-        let added = lines.iter().filter(|(l, a)| l.starts_with("object ") && a.is_empty()).count();
-        assert!(added > 300 && added < 12_000, "{added} objects in 120,000 lines");
+fn what_nights_are_made_of() {
+    for style in [Style::Calm, Style::Wild] {
+        let lines = answered(0..10, style, 10_000);
+        configurations_are_said_in_words(style, &lines);
+        pools_fill_up_and_are_named_wrongly(style, &lines);
+        it_is_asked_who_sends_next(style, &lines);
+        the_writer_says_yes_and_no(style, &lines);
     }
+}
+
+fn configurations_are_said_in_words(style: Style, lines: &[(String, String)]) {
+    let least = if style == Style::Calm { 30 } else { 60 };
+    let count = |line: &str, answer: &str| {
+        lines.iter().filter(|(l, a)| l == line && a.starts_with(answer)).count()
+    };
+    assert!(count("init", "init 0 0") > least, "{} accepted", count("init", "init 0 0"));
+    // Calm nights say good ones, at times too early.
+    let bad = count("init", "init 1 9");
+    assert!(if style == Style::Calm { bad == 0 } else { bad > 40 }, "{bad} bad ones");
+    let added = |word: &str| {
+        let added = |(l, a): &&(String, String)| l.starts_with("object ") && a.is_empty();
+        lines.iter().filter(added).filter(|(l, _)| l.contains(word)).count()
+    };
+    let (objects, pools) = (added(""), added(" pool "));
+    assert!(objects > 300 && objects < 10_000, "{objects} objects in 100,000 lines");
+    assert!(pools > 100, "{pools} of {objects} with a pool");
+}
+
+fn pools_fill_up_and_are_named_wrongly(style: Style, lines: &[(String, String)]) {
+    let (busy, wrong) = (count(lines, "write 2 36 -"), count(lines, "write 1 2 -"));
+    assert!(busy > 100, "{style:?}: {busy} busy");
+    assert!(wrong > 100, "{style:?}: {wrong} named wrongly");
+    let by_another = |(line, answer): &&(String, String)| {
+        let named = line.split_ascii_whitespace().nth(1);
+        answer.strip_prefix("write 0 0 ").is_some_and(|member| named != Some(member))
+    };
+    let others = lines.iter().filter(by_another).count();
+    assert!(others > 1000, "{style:?}: {others} writes are taken by another member");
+}
+
+fn it_is_asked_who_sends_next(style: Style, lines: &[(String, String)]) {
+    let (all, none) = (count(lines, "next 0 0 "), count(lines, "next 0 0 none"));
+    assert!(none > 100 && all - none > 100, "{style:?}: {none} of {all} are none");
+}
+
+fn the_writer_says_yes_and_no(style: Style, lines: &[(String, String)]) {
+    let least = if style == Style::Calm { 10 } else { 50 };
+    let (yes, bad) = (count(lines, "config 0 0 "), count(lines, "config 1 9 -"));
+    assert!(yes > 50 && bad > least, "{style:?}: {yes} written, {bad} cannot be said");
+    let short = count(lines, "config 1 32 -");
+    assert!(style == Style::Calm || short > least, "{style:?}: {short} are short");
 }
 
 #[test]
@@ -332,6 +471,7 @@ fn a_wild_night_has_every_trouble() {
         "handle too large",
         "sheet too long",
         "memory too long",
+        "room too large",
         "does not fit a byte",
         "too many objects",
     ] {

@@ -1,6 +1,7 @@
 // One line of a night.
 use crate::terse;
 use bench_draft::draft::ROOM;
+use bench_draft::draft::add_in_pool;
 use bench_draft::draft::add_receiving;
 use bench_draft::draft::add_sending;
 use bench_draft::draft::begin;
@@ -22,6 +23,7 @@ use bench_requests::request::Wanted;
 use bench_requests::request::init;
 use bench_requests::request::request_of;
 use bench_script::command::Command;
+use bench_script::command::LARGEST_ROOM;
 use bench_script::name::name_of;
 use bench_words::bytes::MOST_BYTES;
 use bench_words::reading::Trouble;
@@ -291,6 +293,15 @@ fn configured(
             let added = add_sending(draft, controller, payload, padding);
             object_added(desk, added, number, line, out)
         }
+        Command::SendInPool {
+            controller,
+            payload,
+            padding,
+            pool,
+        } => {
+            let added = add_in_pool(draft, controller, payload, padding, pool);
+            object_added(desk, added, number, line, out)
+        }
         Command::Receive {
             controller,
             payload,
@@ -343,6 +354,12 @@ fn is_configured(command: Command) -> bool {
             payload: _,
             padding: _,
         } => true,
+        Command::SendInPool {
+            controller: _,
+            payload: _,
+            padding: _,
+            pool: _,
+        } => true,
         Command::Receive {
             controller: _,
             payload: _,
@@ -370,10 +387,46 @@ fn stateless(
     next
 }
 
-fn is_state(command: Command) -> bool {
+// The configuration of the driver, written in a version into so much room of a buffer.
+fn config_into(
+    state: State,
+    desk: Desk,
+    version: u32,
+    room: u32,
+    buffer: &mut [u8],
+    out: &mut [u8],
+) -> usize {
+    let count = of_bytes(room as usize, buffer);
+    let setup = can::configuration_of(state);
+    let reply = can::write_configuration(version, setup, &mut buffer[..count]);
+    if desk.plain {
+        return plain::config(out, desk.at, desk.line, state, version, room, reply);
+    }
+    terse::config(out, desk.at, desk.line, reply, buffer)
+}
+
+fn config(state: State, desk: Desk, version: u32, room: u32, out: &mut [u8]) -> usize {
+    let mut buffer = [0u8; LARGEST_ROOM];
+    config_into(state, desk, version, room, &mut buffer, out)
+}
+
+// Whether a command looks at the state.
+fn looks(command: Command) -> bool {
     match command {
         Command::State => true,
+        Command::Config {
+            version: _,
+            room: _,
+        } => true,
         _ => false,
+    }
+}
+
+// What such a command is told as.
+fn looked(state: State, desk: Desk, command: Command, out: &mut [u8]) -> usize {
+    match command {
+        Command::Config { version, room } => config(state, desk, version, room, out),
+        _ => state_told(state, desk, out),
     }
 }
 
@@ -389,9 +442,9 @@ fn other(
     let command = bench_script::command::read(line, bytes);
     let state = night.state;
     let desk = night.desk;
-    if is_state(command) {
+    if looks(command) {
         let mut told = desk;
-        told.at = state_told(state, desk, out);
+        told.at = looked(state, desk, command, out);
         return Night {
             state: state,
             desk: told,

@@ -8,6 +8,7 @@ use bench_text::put::put;
 use bench_text::put::put_decimal;
 use bench_words::reading::Trouble;
 use bench_words::split::between;
+use can::ConfigReply;
 use can::State;
 use can::Verdict;
 use can_calls::answer::Answer;
@@ -17,8 +18,8 @@ use core_places::mailbox::Mailbox;
 use core_places::range::limited;
 
 // The names of calls, one after the other.
-const NAMES: [u8; 101] =
-    *b" init  deinit  set  get  write  poll-write  poll-read  poll-mode  poll-busoff  sent  busoff  arrived ";
+const NAMES: [u8; 107] =
+    *b" init  deinit  set  get  write  poll-write  poll-read  poll-mode  poll-busoff  sent  busoff  arrived  next ";
 
 // Where a name begins and where it ends. Not a table that is searched: it is read for every line of a night.
 fn start(function: Function) -> usize {
@@ -35,6 +36,7 @@ fn start(function: Function) -> usize {
         Function::Sent => 78,
         Function::BusOff => 84,
         Function::Arrived => 92,
+        Function::Next => 101,
     }
 }
 
@@ -52,6 +54,7 @@ fn end(function: Function) -> usize {
         Function::Sent => 84,
         Function::BusOff => 92,
         Function::Arrived => 101,
+        Function::Next => 107,
     }
 }
 
@@ -61,27 +64,31 @@ fn name(out: &mut [u8], at: usize, function: Function) -> usize {
 }
 
 // The words of answers, one after the other; where each begins and ends.
-const ANSWERS: [u8; 26] = *b" - stored: unwanted lost  ";
+const ANSWERS: [u8; 30] = *b" - stored: unwanted lost none ";
 
 fn answer_start(answer: Answer) -> usize {
     match answer {
         Answer::Nothing => 0,
-        Answer::Mode(_) => 24,
-        Answer::TakenBy(_) => 24,
+        Answer::Mode(_) => 29,
+        Answer::TakenBy(_) => 29,
         Answer::Stored(_) => 2,
         Answer::Unwanted => 10,
         Answer::Lost => 19,
+        Answer::SendsNext(_) => 29,
+        Answer::Nobody => 24,
     }
 }
 
 fn answer_end(answer: Answer) -> usize {
     match answer {
         Answer::Nothing => 2,
-        Answer::Mode(_) => 25,
-        Answer::TakenBy(_) => 25,
+        Answer::Mode(_) => 30,
+        Answer::TakenBy(_) => 30,
         Answer::Stored(_) => 10,
         Answer::Unwanted => 19,
         Answer::Lost => 24,
+        Answer::SendsNext(_) => 30,
+        Answer::Nobody => 29,
     }
 }
 
@@ -91,6 +98,7 @@ fn answer_number(answer: Answer) -> u64 {
         Answer::Mode(m) => m as u64,
         Answer::TakenBy(h) => h as u64,
         Answer::Stored(h) => h as u64,
+        Answer::SendsNext(h) => h as u64,
         _ => NO_NUMBER,
     }
 }
@@ -153,6 +161,29 @@ pub fn bytes(out: &mut [u8], at: usize, line: u64, word: &[u8], data: &[u8]) -> 
     let mut end = numbered(out, at, b"", line);
     end = put(out, end, word);
     end = hex_or_none(out, end, data);
+    put(out, end, b"\n")
+}
+
+// How many bytes were written.
+fn written(reply: ConfigReply) -> usize {
+    match reply {
+        ConfigReply::Written(size) => size,
+        ConfigReply::Rejected(_) => 0,
+    }
+}
+
+// The line, and what the writer says: `LINE config CODE REASON`.
+fn config_verdict(out: &mut [u8], at: usize, line: u64, verdict: Verdict) -> usize {
+    let mut end = numbered(out, at, b"", line);
+    end = numbered(out, end, b" config ", can::return_code(verdict) as u64);
+    numbered(out, end, b" ", can::verdict_reason(verdict) as u64)
+}
+
+// The configuration as the writer wrote it: the same, and ` HEX`.
+pub fn config(out: &mut [u8], at: usize, line: u64, reply: ConfigReply, buffer: &[u8]) -> usize {
+    let mut end = config_verdict(out, at, line, can::config_verdict(reply));
+    end = put(out, end, b" ");
+    end = hex_or_none(out, end, between(buffer, 0, written(reply)));
     put(out, end, b"\n")
 }
 

@@ -19,7 +19,7 @@ use Rattle.bench_messages.specs.Faults.{fault-text}
 use Rattle.bench_messages.specs.Totals.{rows}
 use Rattle.bench_messages.specs.Places.{trouble-place, name-place, rule-place}
 
-pub trouble-found : (x : Trouble) → piece (trouble-place x) (joined (trouble-text troubles.LineTooLong ∷ trouble-text troubles.UnknownCommand ∷ trouble-text troubles.WordMissing ∷ trouble-text troubles.WordTooMany ∷ trouble-text troubles.NotANumber ∷ trouble-text troubles.NumberTooLarge ∷ trouble-text troubles.NotAnIdentifier ∷ trouble-text troubles.IdentifierTooLong ∷ trouble-text troubles.NotHexDigits ∷ trouble-text troubles.OddDigits ∷ trouble-text troubles.NotOneByte ∷ trouble-text troubles.NotAMode ∷ trouble-text troubles.UnknownPoll ∷ trouble-text troubles.HandleTooLarge ∷ trouble-text troubles.SheetTooLong ∷ trouble-text troubles.MemoryTooLong ∷ trouble-text troubles.ByteTooLarge ∷ trouble-text troubles.UnexpectedWord ∷ trouble-text troubles.UnknownKind ∷ trouble-text troubles.TooManyObjects ∷ [])) ≡ ascii (trouble-text x)
+pub trouble-found : (x : Trouble) → piece (trouble-place x) (joined (trouble-text troubles.LineTooLong ∷ trouble-text troubles.UnknownCommand ∷ trouble-text troubles.WordMissing ∷ trouble-text troubles.WordTooMany ∷ trouble-text troubles.NotANumber ∷ trouble-text troubles.NumberTooLarge ∷ trouble-text troubles.NotAnIdentifier ∷ trouble-text troubles.IdentifierTooLong ∷ trouble-text troubles.NotHexDigits ∷ trouble-text troubles.OddDigits ∷ trouble-text troubles.NotOneByte ∷ trouble-text troubles.NotAMode ∷ trouble-text troubles.UnknownPoll ∷ trouble-text troubles.HandleTooLarge ∷ trouble-text troubles.SheetTooLong ∷ trouble-text troubles.MemoryTooLong ∷ trouble-text troubles.RoomTooLarge ∷ trouble-text troubles.ByteTooLarge ∷ trouble-text troubles.UnexpectedWord ∷ trouble-text troubles.UnknownKind ∷ trouble-text troubles.TooManyObjects ∷ [])) ≡ ascii (trouble-text x)
 unfolding piece-start leading
 trouble-found troubles.LineTooLong = refl
 trouble-found troubles.UnknownCommand = refl
@@ -37,12 +37,13 @@ trouble-found troubles.UnknownPoll = refl
 trouble-found troubles.HandleTooLarge = refl
 trouble-found troubles.SheetTooLong = refl
 trouble-found troubles.MemoryTooLong = refl
+trouble-found troubles.RoomTooLarge = refl
 trouble-found troubles.ByteTooLarge = refl
 trouble-found troubles.UnexpectedWord = refl
 trouble-found troubles.UnknownKind = refl
 trouble-found troubles.TooManyObjects = refl
 
-pub usage-found : (x : Name) → piece (name-place x) (joined (usage-text names.Init ∷ usage-text names.DeInit ∷ usage-text names.Set ∷ usage-text names.Get ∷ usage-text names.Write ∷ usage-text names.Poll ∷ usage-text names.Sent ∷ usage-text names.BusOff ∷ usage-text names.Arrived ∷ usage-text names.Data ∷ usage-text names.Sheet ∷ usage-text names.Memory ∷ usage-text names.Show ∷ usage-text names.State ∷ usage-text names.Controllers ∷ usage-text names.Object ∷ usage-text names.Unknown ∷ [])) ≡ ascii (usage-text x)
+pub usage-found : (x : Name) → piece (name-place x) (joined (usage-text names.Init ∷ usage-text names.DeInit ∷ usage-text names.Set ∷ usage-text names.Get ∷ usage-text names.Write ∷ usage-text names.Poll ∷ usage-text names.Sent ∷ usage-text names.BusOff ∷ usage-text names.Arrived ∷ usage-text names.Next ∷ usage-text names.Data ∷ usage-text names.Sheet ∷ usage-text names.Memory ∷ usage-text names.Show ∷ usage-text names.State ∷ usage-text names.Config ∷ usage-text names.Controllers ∷ usage-text names.Object ∷ usage-text names.Unknown ∷ [])) ≡ ascii (usage-text x)
 unfolding piece-start leading
 usage-found names.Init = refl
 usage-found names.DeInit = refl
@@ -53,16 +54,18 @@ usage-found names.Poll = refl
 usage-found names.Sent = refl
 usage-found names.BusOff = refl
 usage-found names.Arrived = refl
+usage-found names.Next = refl
 usage-found names.Data = refl
 usage-found names.Sheet = refl
 usage-found names.Memory = refl
 usage-found names.Show = refl
 usage-found names.State = refl
+usage-found names.Config = refl
 usage-found names.Controllers = refl
 usage-found names.Object = refl
 usage-found names.Unknown = refl
 
-pub word-found : (x : Trouble) → piece (trouble-place x) (joined (word-text troubles.LineTooLong ∷ word-text troubles.UnknownCommand ∷ word-text troubles.WordMissing ∷ word-text troubles.WordTooMany ∷ word-text troubles.NotANumber ∷ word-text troubles.NumberTooLarge ∷ word-text troubles.NotAnIdentifier ∷ word-text troubles.IdentifierTooLong ∷ word-text troubles.NotHexDigits ∷ word-text troubles.OddDigits ∷ word-text troubles.NotOneByte ∷ word-text troubles.NotAMode ∷ word-text troubles.UnknownPoll ∷ word-text troubles.HandleTooLarge ∷ word-text troubles.SheetTooLong ∷ word-text troubles.MemoryTooLong ∷ word-text troubles.ByteTooLarge ∷ word-text troubles.UnexpectedWord ∷ word-text troubles.UnknownKind ∷ word-text troubles.TooManyObjects ∷ [])) ≡ ascii (word-text x)
+pub word-found : (x : Trouble) → piece (trouble-place x) (joined (word-text troubles.LineTooLong ∷ word-text troubles.UnknownCommand ∷ word-text troubles.WordMissing ∷ word-text troubles.WordTooMany ∷ word-text troubles.NotANumber ∷ word-text troubles.NumberTooLarge ∷ word-text troubles.NotAnIdentifier ∷ word-text troubles.IdentifierTooLong ∷ word-text troubles.NotHexDigits ∷ word-text troubles.OddDigits ∷ word-text troubles.NotOneByte ∷ word-text troubles.NotAMode ∷ word-text troubles.UnknownPoll ∷ word-text troubles.HandleTooLarge ∷ word-text troubles.SheetTooLong ∷ word-text troubles.MemoryTooLong ∷ word-text troubles.RoomTooLarge ∷ word-text troubles.ByteTooLarge ∷ word-text troubles.UnexpectedWord ∷ word-text troubles.UnknownKind ∷ word-text troubles.TooManyObjects ∷ [])) ≡ ascii (word-text x)
 unfolding piece-start leading
 word-found troubles.LineTooLong = refl
 word-found troubles.UnknownCommand = refl
@@ -80,12 +83,13 @@ word-found troubles.UnknownPoll = refl
 word-found troubles.HandleTooLarge = refl
 word-found troubles.SheetTooLong = refl
 word-found troubles.MemoryTooLong = refl
+word-found troubles.RoomTooLarge = refl
 word-found troubles.ByteTooLarge = refl
 word-found troubles.UnexpectedWord = refl
 word-found troubles.UnknownKind = refl
 word-found troubles.TooManyObjects = refl
 
-pub fault-found : (x : Rule) → piece (rule-place x) (joined (fault-text rules.Accepted ∷ fault-text rules.Mark ∷ fault-text rules.Version ∷ fault-text rules.Controllers ∷ fault-text rules.Objects ∷ fault-text rules.ZeroByte ∷ fault-text rules.Size ∷ fault-text rules.Controller ∷ fault-text rules.Kind ∷ fault-text rules.Payload ∷ fault-text rules.SendingCode ∷ fault-text rules.SendingMask ∷ fault-text rules.ReceivingPadding ∷ fault-text rules.CodeBits ∷ fault-text rules.MaskBits ∷ fault-text rules.StandardCode ∷ fault-text rules.StandardMask ∷ fault-text rules.StrayBit ∷ [])) ≡ ascii (fault-text x)
+pub fault-found : (x : Rule) → piece (rule-place x) (joined (fault-text rules.Accepted ∷ fault-text rules.Mark ∷ fault-text rules.Version ∷ fault-text rules.Controllers ∷ fault-text rules.Objects ∷ fault-text rules.ZeroByte ∷ fault-text rules.Size ∷ fault-text rules.Controller ∷ fault-text rules.Kind ∷ fault-text rules.Payload ∷ fault-text rules.SendingCode ∷ fault-text rules.SendingMask ∷ fault-text rules.Pool ∷ fault-text rules.ReceivingPadding ∷ fault-text rules.CodeBits ∷ fault-text rules.MaskBits ∷ fault-text rules.StandardCode ∷ fault-text rules.StandardMask ∷ fault-text rules.StrayBit ∷ fault-text rules.PoolController ∷ fault-text rules.PoolPayload ∷ fault-text rules.PoolPadding ∷ [])) ≡ ascii (fault-text x)
 unfolding piece-start leading
 fault-found rules.Accepted = refl
 fault-found rules.Mark = refl
@@ -99,12 +103,16 @@ fault-found rules.Kind = refl
 fault-found rules.Payload = refl
 fault-found rules.SendingCode = refl
 fault-found rules.SendingMask = refl
+fault-found rules.Pool = refl
 fault-found rules.ReceivingPadding = refl
 fault-found rules.CodeBits = refl
 fault-found rules.MaskBits = refl
 fault-found rules.StandardCode = refl
 fault-found rules.StandardMask = refl
 fault-found rules.StrayBit = refl
+fault-found rules.PoolController = refl
+fault-found rules.PoolPayload = refl
+fault-found rules.PoolPadding = refl
 
 pub row-found : (what : ℕ) → what < 11 → piece what (joined rows) ≡ ascii (getD rows what "")
 unfolding piece-start leading

@@ -6,5 +6,7 @@ pub mod Frames
 pub mod States
 pub mod Totals
 pub mod Lines
+pub mod Configs
+pub mod Pools
 pub mod Reports
 pub mod Places

@@ -1,7 +1,7 @@
 -- Where the tables of the code have the text of a variant. No promise rests on it.
 use Prim.Native.Nat.{ℕ}
 use Rattle.bench_words.specs.declared.reading.Trouble.{Trouble}
-use Rattle.bench_words.specs.declared.reading.Trouble.the-variants.{LineTooLong, UnknownCommand, WordMissing, WordTooMany, NotANumber, NumberTooLarge, NotAnIdentifier, IdentifierTooLong, NotHexDigits, OddDigits, NotOneByte, NotAMode, UnknownPoll, HandleTooLarge, SheetTooLong, MemoryTooLong, ByteTooLarge, UnexpectedWord, UnknownKind, TooManyObjects}
+use Rattle.bench_words.specs.declared.reading.Trouble.the-variants.{LineTooLong, UnknownCommand, WordMissing, WordTooMany, NotANumber, NumberTooLarge, NotAnIdentifier, IdentifierTooLong, NotHexDigits, OddDigits, NotOneByte, NotAMode, UnknownPoll, HandleTooLarge, SheetTooLong, MemoryTooLong, RoomTooLarge, ByteTooLarge, UnexpectedWord, UnknownKind, TooManyObjects}
 use Rattle.bench_script.specs.declared.name.Name.{Name}
 use Rattle.bench_script.specs.declared.name.Name.the-variants as names
 use Rattle.can_faults.specs.declared.fault.Rule.{Rule}
@@ -24,10 +24,11 @@ trouble-place UnknownPoll = 12
 trouble-place HandleTooLarge = 13
 trouble-place SheetTooLong = 14
 trouble-place MemoryTooLong = 15
-trouble-place ByteTooLarge = 16
-trouble-place UnexpectedWord = 17
-trouble-place UnknownKind = 18
-trouble-place TooManyObjects = 19
+trouble-place RoomTooLarge = 16
+trouble-place ByteTooLarge = 17
+trouble-place UnexpectedWord = 18
+trouble-place UnknownKind = 19
+trouble-place TooManyObjects = 20
 
 abbrev pub name-place : Name → ℕ
 name-place names.Init = 0
@@ -39,14 +40,16 @@ name-place names.Poll = 5
 name-place names.Sent = 6
 name-place names.BusOff = 7
 name-place names.Arrived = 8
-name-place names.Data = 9
-name-place names.Sheet = 10
-name-place names.Memory = 11
-name-place names.Show = 12
-name-place names.State = 13
-name-place names.Controllers = 14
-name-place names.Object = 15
-name-place names.Unknown = 16
+name-place names.Next = 9
+name-place names.Data = 10
+name-place names.Sheet = 11
+name-place names.Memory = 12
+name-place names.Show = 13
+name-place names.State = 14
+name-place names.Config = 15
+name-place names.Controllers = 16
+name-place names.Object = 17
+name-place names.Unknown = 18
 
 abbrev pub rule-place : Rule → ℕ
 rule-place rules.Accepted = 0
@@ -61,9 +64,13 @@ rule-place rules.Kind = 8
 rule-place rules.Payload = 9
 rule-place rules.SendingCode = 10
 rule-place rules.SendingMask = 11
-rule-place rules.ReceivingPadding = 12
-rule-place rules.CodeBits = 13
-rule-place rules.MaskBits = 14
-rule-place rules.StandardCode = 15
-rule-place rules.StandardMask = 16
-rule-place rules.StrayBit = 17
+rule-place rules.Pool = 12
+rule-place rules.ReceivingPadding = 13
+rule-place rules.CodeBits = 14
+rule-place rules.MaskBits = 15
+rule-place rules.StandardCode = 16
+rule-place rules.StandardMask = 17
+rule-place rules.StrayBit = 18
+rule-place rules.PoolController = 19
+rule-place rules.PoolPayload = 20
+rule-place rules.PoolPadding = 21

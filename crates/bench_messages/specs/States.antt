@@ -18,10 +18,12 @@ controller place mode asked off =
     (cond (eqb asked 0) "          controller %2  %m\n" "          controller %2  %m, asked for %m\n"))
     (five place mode asked 0 0)
 
--- an object as the configuration in words has it
-abbrev pub sending : ℕ → ℕ → ℕ → ℕ → List ℕ
-sending object controller payload padding =
-    said "          object     %2  send controller %0 payload %0 padding %h" (five object controller payload padding 0)
+-- an object as the configuration in words has it; the pool of one that sends is said where it is not its own number
+abbrev pub sending : ℕ → ℕ → ℕ → ℕ → ℕ → List ℕ
+sending object controller payload padding pool =
+    said
+    (cond (eqb pool object) "          object     %2  send controller %0 payload %0 padding %h" "          object     %2  send controller %0 payload %0 padding %h pool %0")
+    (five object controller payload padding pool)
 
 abbrev pub receiving : ℕ → ℕ → ℕ → ℕ → ℕ → List ℕ
 receiving object controller payload code mask =

@@ -5,7 +5,7 @@ use lib.Dec.{eqb}
 use lib.ListN.{length}
 use Rattle.bench_words.specs.Text.{ascii}
 use Rattle.bench_words.specs.declared.reading.Trouble.{Trouble}
-use Rattle.bench_words.specs.declared.reading.Trouble.the-variants.{LineTooLong, UnknownCommand, WordMissing, WordTooMany, NotANumber, NumberTooLarge, NotAnIdentifier, IdentifierTooLong, NotHexDigits, OddDigits, NotOneByte, NotAMode, UnknownPoll, HandleTooLarge, SheetTooLong, MemoryTooLong, ByteTooLarge, UnexpectedWord, UnknownKind, TooManyObjects}
+use Rattle.bench_words.specs.declared.reading.Trouble.the-variants.{LineTooLong, UnknownCommand, WordMissing, WordTooMany, NotANumber, NumberTooLarge, NotAnIdentifier, IdentifierTooLong, NotHexDigits, OddDigits, NotOneByte, NotAMode, UnknownPoll, HandleTooLarge, SheetTooLong, MemoryTooLong, RoomTooLarge, ByteTooLarge, UnexpectedWord, UnknownKind, TooManyObjects}
 use Rattle.bench_script.specs.declared.name.Name.{Name}
 use Rattle.bench_script.specs.declared.name.Name.the-variants as names
 
@@ -27,6 +27,7 @@ trouble-text UnknownPoll = "unknown poll"
 trouble-text HandleTooLarge = "handle too large"
 trouble-text SheetTooLong = "sheet too long"
 trouble-text MemoryTooLong = "memory too long"
+trouble-text RoomTooLarge = "room too large"
 trouble-text ByteTooLarge = "does not fit a byte"
 trouble-text UnexpectedWord = "unexpected word"
 trouble-text UnknownKind = "unknown kind of object"
@@ -43,14 +44,16 @@ usage-text names.Poll = "poll write, poll read, poll mode or poll busoff"
 usage-text names.Sent = "sent OBJECT"
 usage-text names.BusOff = "busoff CONTROLLER"
 usage-text names.Arrived = "arrived CONTROLLER ID BYTES"
+usage-text names.Next = "next CONTROLLER"
 usage-text names.Data = "data OBJECT"
 usage-text names.Sheet = "sheet WORDS"
 usage-text names.Memory = "memory BYTES"
 usage-text names.Show = "show OBJECT"
 usage-text names.State = "state"
+usage-text names.Config = "config VERSION ROOM"
 usage-text names.Controllers = "controllers COUNT"
-usage-text names.Object = "object send controller C payload P padding XX, or object receive controller C payload P code ID mask ID"
-usage-text names.Unknown = "init, controllers, object, deinit, set, get, write, poll, sent, busoff, arrived, data, sheet, memory, show or state"
+usage-text names.Object = "object send controller C payload P padding XX, the same with pool N behind it, or object receive controller C payload P code ID mask ID"
+usage-text names.Unknown = "init, controllers, object, deinit, set, get, write, poll, sent, busoff, arrived, next, data, sheet, memory, show, state or config"
 
 -- what was expected instead of a word; nothing where the trouble is with the whole of a command
 abbrev pub word-text : Trouble → String
@@ -70,6 +73,7 @@ word-text UnknownPoll = ""
 word-text HandleTooLarge = "at most 65535"
 word-text SheetTooLong = "at most 4096 words"
 word-text MemoryTooLong = "at most 16384 bytes"
+word-text RoomTooLarge = "at most 4096 bytes"
 word-text ByteTooLarge = "at most 255"
 word-text UnexpectedWord = ""
 word-text UnknownKind = "send or receive"
@@ -93,6 +97,7 @@ command-of UnknownPoll name = names.Poll
 command-of HandleTooLarge name = name
 command-of SheetTooLong name = name
 command-of MemoryTooLong name = name
+command-of RoomTooLarge name = name
 command-of ByteTooLarge name = name
 command-of UnexpectedWord name = names.Object
 command-of UnknownKind name = name

@@ -57,7 +57,7 @@ pub fn controller(out: &mut [u8], at: usize, place: u64, mode: u64, asked: u64, 
     on_the_bus(out, at, place, mode, asked)
 }
 
-// An object as the configuration in words has it: one that sends, and one that receives.
+// An object as the configuration in words has it: one that sends, with its pool where that is not its own number, and one that receives.
 pub fn sending(
     out: &mut [u8],
     at: usize,
@@ -65,11 +65,16 @@ pub fn sending(
     controller: u64,
     payload: u64,
     padding: u64,
+    pool: u64,
 ) -> usize
-    ensures { λ r. ⌜ Put at (states.sending object controller payload padding) (now (out .entry)) (now (out .exit)) r ⌝ }
+    ensures { λ r. ⌜ Put at (states.sending object controller payload padding pool) (now (out .entry)) (now (out .exit)) r ⌝ }
 {
-    let text = b"          object     %2  send controller %0 payload %0 padding %h";
-    say(out, at, text, [object, controller, payload, padding, 0])
+    if pool == object {
+        let text = b"          object     %2  send controller %0 payload %0 padding %h";
+        return say(out, at, text, [object, controller, payload, padding, pool]);
+    }
+    let text = b"          object     %2  send controller %0 payload %0 padding %h pool %0";
+    say(out, at, text, [object, controller, payload, padding, pool])
 }
 
 pub fn receiving(

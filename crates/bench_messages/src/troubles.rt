@@ -29,10 +29,11 @@ fn place(trouble: Trouble) -> usize
         Trouble::HandleTooLarge => 13,
         Trouble::SheetTooLong => 14,
         Trouble::MemoryTooLong => 15,
-        Trouble::ByteTooLarge => 16,
-        Trouble::UnexpectedWord => 17,
-        Trouble::UnknownKind => 18,
-        Trouble::TooManyObjects => 19,
+        Trouble::RoomTooLarge => 16,
+        Trouble::ByteTooLarge => 17,
+        Trouble::UnexpectedWord => 18,
+        Trouble::UnknownKind => 19,
+        Trouble::TooManyObjects => 20,
     }
 }
 
@@ -56,6 +57,7 @@ pub fn trouble(out: &mut [u8], at: usize, trouble: Trouble) -> usize
         handle too large|\
         sheet too long|\
         memory too long|\
+        room too large|\
         does not fit a byte|\
         unexpected word|\
         unknown kind of object|\
@@ -76,14 +78,16 @@ fn place_of(name: Name) -> usize
         Name::Sent => 6,
         Name::BusOff => 7,
         Name::Arrived => 8,
-        Name::Data => 9,
-        Name::Sheet => 10,
-        Name::Memory => 11,
-        Name::Show => 12,
-        Name::State => 13,
-        Name::Controllers => 14,
-        Name::Object => 15,
-        Name::Unknown => 16,
+        Name::Next => 9,
+        Name::Data => 10,
+        Name::Sheet => 11,
+        Name::Memory => 12,
+        Name::Show => 13,
+        Name::State => 14,
+        Name::Config => 15,
+        Name::Controllers => 16,
+        Name::Object => 17,
+        Name::Unknown => 18,
     }
 }
 
@@ -100,14 +104,16 @@ fn usage(out: &mut [u8], at: usize, name: Name) -> usize
         sent OBJECT|\
         busoff CONTROLLER|\
         arrived CONTROLLER ID BYTES|\
+        next CONTROLLER|\
         data OBJECT|\
         sheet WORDS|\
         memory BYTES|\
         show OBJECT|\
         state|\
+        config VERSION ROOM|\
         controllers COUNT|\
-        object send controller C payload P padding XX, or object receive controller C payload P code ID mask ID|\
-        init, controllers, object, deinit, set, get, write, poll, sent, busoff, arrived, data, sheet, memory, show or state";
+        object send controller C payload P padding XX, the same with pool N behind it, or object receive controller C payload P code ID mask ID|\
+        init, controllers, object, deinit, set, get, write, poll, sent, busoff, arrived, next, data, sheet, memory, show, state or config";
     put(out, at, piece(texts, place_of(name)))
 }
 
@@ -132,6 +138,7 @@ fn command_of(trouble: Trouble, name: Name) -> Name
         Trouble::HandleTooLarge => name,
         Trouble::SheetTooLong => name,
         Trouble::MemoryTooLong => name,
+        Trouble::RoomTooLarge => name,
         Trouble::ByteTooLarge => name,
         Trouble::UnexpectedWord => Name::Object,
         Trouble::UnknownKind => name,
@@ -159,6 +166,7 @@ pub fn expected(out: &mut [u8], at: usize, trouble: Trouble, name: Name) -> usiz
         at most 65535|\
         at most 4096 words|\
         at most 16384 bytes|\
+        at most 4096 bytes|\
         at most 255|\
         |\
         send or receive|\

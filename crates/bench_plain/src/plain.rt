@@ -1,9 +1,12 @@
 // The plain style: each line in words.
+use crate::config;
+use crate::frames::identifier_in;
 use crate::night::Desk;
 use crate::object;
 use crate::refused;
 use crate::state;
 use crate::suspect;
+use bench_messages::configs;
 use bench_messages::lines;
 use bench_messages::troubles;
 use bench_replies::answers;
@@ -13,6 +16,8 @@ use bench_say::form::to_column;
 use bench_script::name::Name;
 use bench_text::put::put;
 use bench_words::reading::Trouble;
+use can::CONTROLLERS;
+use can::ConfigReply;
 use can::State;
 use can::Verdict;
 use can_calls::answer::Answer;
@@ -23,18 +28,50 @@ use can_calls::request::Request;
 // The column at which answers begin.
 const ANSWER: usize = 66;
 
-// What an accepted call answers; the state is that after it.
+// Whether a controller is off the bus.
+fn is_off(state: State, controller: u32) -> bool {
+    let c = controller as usize;
+    if c < CONTROLLERS {
+        state.marks[c]
+    } else {
+        false
+    }
+}
+
+fn is_nobody(answer: Answer) -> bool {
+    match answer {
+        Answer::Nobody => true,
+        _ => false,
+    }
+}
+
+// The identifier of the frame that is sent next.
+fn identified(out: &mut [u8], at: usize, answer: Answer, ram: &[u8]) -> usize {
+    match answer {
+        Answer::SendsNext(h) => answers::its_identifier(out, at, identifier_in(ram, h)),
+        _ => at,
+    }
+}
+
+// What an accepted call answers; the state is that after it, and the memory that lent to it. Where nobody sends since the controller is off
+// the bus, that is told.
 fn accepted(
     out: &mut [u8],
     at: usize,
-    function: Function,
+    request: Request,
     answer: Answer,
     next: State,
     told: usize,
+    ram: &[u8],
 ) -> usize {
+    if is_nobody(answer) & is_off(next, request.controller) {
+        return answers::off_the_bus(out, at, request.controller as u64);
+    }
+    let function = request.function;
     let controllers = next.controller_count as u64;
     let objects = next.object_count as u64;
-    answers::answer(out, at, answer, function, told, controllers, objects)
+    let end = answers::answer(out, at, answer, function, told, controllers, objects);
+    identified(out, end, answer, ram)
 }
 
 // What came of a call; the state is that before it.
@@ -48,13 +85,13 @@ fn replied(
     length: u32,
     bytes: &[u8],
     played: Played,
+    ram: &[u8],
 ) -> usize {
     let verdict = played.verdict;
     let next = played.state;
-    let function = request.function;
     let answer = played.answer;
     match verdict {
-        Verdict::Accepted => accepted(out, at, function, answer, next, played.notifications),
+        Verdict::Accepted => accepted(out, at, request, answer, next, played.notifications, ram),
         Verdict::Rejected(reason) => refused::call(
             out,
             at,
@@ -69,7 +106,7 @@ fn replied(
     }
 }
 
-// A call with its answer; bytes are those that it was given.
+// A call with its answer; bytes are those that it was given, and ram the memory lent to it.
 pub fn call(
     out: &mut [u8],
     at: usize,
@@ -80,12 +117,45 @@ pub fn call(
     length: u32,
     bytes: &[u8],
     played: Played,
+    ram: &[u8],
 ) -> usize {
     let mut end = lines::number(out, at, desk.line);
     end = calls::call(out, end, request, length);
     end = to_column(out, end, at, ANSWER);
-    end = replied(out, end, state, desk, book, request, length, bytes, played);
+    end = replied(
+        out,
+        end,
+        state,
+        desk,
+        book,
+        request,
+        length,
+        bytes,
+        played,
+        ram,
+    );
     put(out, end, b"\n")
+}
+
+// The configuration written in a version, shown in words under it; or why it was not.
+pub fn config(
+    out: &mut [u8],
+    at: usize,
+    line: u64,
+    state: State,
+    version: u32,
+    room: u32,
+    reply: ConfigReply,
+) -> usize {
+    let mut end = configs::asked(out, at, line, version as u64, room as u64);
+    end = to_column(out, end, at, ANSWER);
+    match reply {
+        ConfigReply::Written(size) => {
+            end = configs::written(out, end, size as u64);
+            config::shown(out, end, state)
+        }
+        ConfigReply::Rejected(reason) => config::refused(out, end, state, version, room, reason),
+    }
 }
 
 // Data of an object.

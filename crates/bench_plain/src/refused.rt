@@ -2,6 +2,7 @@
 use crate::book::origin;
 use crate::fault;
 use crate::night::Desk;
+use crate::pool;
 use bench_replies::refusals;
 use bench_say::say::NUMBERS;
 use bench_say::say::one;
@@ -95,6 +96,9 @@ pub fn call(
         return fault::told(out, end, bytes);
     }
     let line = origin(book, request.object);
+    if pool::is_told(state, request, reason) {
+        return pool::told(out, end, state, request.object, reason, line);
+    }
     let numbers = numbers(reason, request, length, state, desk, line);
     let function = request.function;
     let identifier = request.identifier;

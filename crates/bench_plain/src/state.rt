@@ -45,7 +45,15 @@ fn configured(out: &mut [u8], at: usize, h: u64, o: Owner, s: Settings) -> usize
             s.mask as u64,
         );
     }
-    states::sending(out, at, h, controller, payload, s.padding as u64)
+    states::sending(
+        out,
+        at,
+        h,
+        controller,
+        payload,
+        s.padding as u64,
+        o.pool as u64,
+    )
 }
 
 // An object, and what it holds.
@@ -65,6 +73,7 @@ fn place(out: &mut [u8], at: usize, state: State, h: usize) -> usize {
     let o = Owner {
         controller: state.owners[h],
         receiving: state.receivings[h],
+        pool: state.pools[h],
     };
     let m = Mailbox {
         tx_pending: state.pendings[h],

@@ -47,10 +47,21 @@ fn is_identifier(word: &[u8]) -> bool {
     }
 }
 
+// The controller, the payload or the pool.
+fn bad_number_of_object(line: &[u8]) -> usize {
+    if !is_small(word(line, 3)) {
+        return 3;
+    }
+    if !is_small(word(line, 5)) {
+        return 5;
+    }
+    9
+}
+
 // The first number of a line that is none, or too large.
 fn bad_number(name: Name, line: &[u8]) -> usize {
     match name {
-        Name::Object => { if is_small(word(line, 3)) { 5 } else { 3 } }
+        Name::Object => bad_number_of_object(line),
         Name::Controllers => 1,
         _ => { if is_number(word(line, 1)) { 2 } else { 1 } }
     }
@@ -102,17 +113,23 @@ fn unexpected(line: &[u8]) -> usize {
     if !same(word(line, 4), b"payload") {
         return 4;
     }
-    if same(word(line, 6), b"code") & same(word(line, 1), b"receive") {
+    let receives = same(word(line, 1), b"receive");
+    let third = if receives {
+        same(word(line, 6), b"code")
+    } else {
+        same(word(line, 6), b"padding")
+    };
+    if third {
         return 8;
     }
     6
 }
 
 // The first word too many.
-fn too_many(name: Name, line: &[u8]) -> usize {
+fn too_many(name: Name) -> usize {
     match name {
-        Name::Object => { if same(word(line, 1), b"send") { 8 } else { 10 } }
-        Name::Set => 3,
+        Name::Object => 10,
+        Name::Set | Name::Config => 3,
         Name::DeInit | Name::State => 1,
         _ => 2,
     }
@@ -122,7 +139,7 @@ fn too_many(name: Name, line: &[u8]) -> usize {
 fn place(trouble: Trouble, name: Name, line: &[u8]) -> usize {
     match trouble {
         Trouble::UnknownCommand => 0,
-        Trouble::WordTooMany => too_many(name, line),
+        Trouble::WordTooMany => too_many(name),
         Trouble::NotANumber | Trouble::NumberTooLarge | Trouble::ByteTooLarge => bad_number(
             name,
             line,
@@ -131,7 +148,7 @@ fn place(trouble: Trouble, name: Name, line: &[u8]) -> usize {
         Trouble::NotHexDigits | Trouble::OddDigits => first_byte(name),
         Trouble::NotOneByte => 7,
         Trouble::UnexpectedWord => unexpected(line),
-        Trouble::NotAMode | Trouble::HandleTooLarge => 2,
+        Trouble::NotAMode | Trouble::HandleTooLarge | Trouble::RoomTooLarge => 2,
         Trouble::UnknownPoll
         | Trouble::SheetTooLong
         | Trouble::MemoryTooLong

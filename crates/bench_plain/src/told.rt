@@ -35,6 +35,7 @@ pub fn in_words(
         length,
         bytes,
         played,
+        ram,
     );
     let next = played.state;
     let answer = played.answer;

@@ -20,7 +20,7 @@ use Rattle.bench_replies.specs.Answers.{answer-text}
 use Rattle.bench_replies.specs.Refusals as refusals
 use Rattle.bench_replies.specs.Places.{call-place, polled-place, verdict-place, answer-place, other-place, transition-place, data-place, wire-place, refusal-place}
 
-pub call-found : (x : Function) → piece (call-place x) (joined (call-text functions.Init ∷ call-text functions.DeInit ∷ call-text functions.Set ∷ call-text functions.Get ∷ call-text functions.Write ∷ call-text functions.PollWrite ∷ call-text functions.PollRead ∷ call-text functions.PollMode ∷ call-text functions.PollBusOff ∷ call-text functions.Sent ∷ call-text functions.BusOff ∷ call-text functions.Arrived ∷ [])) ≡ ascii (call-text x)
+pub call-found : (x : Function) → piece (call-place x) (joined (call-text functions.Init ∷ call-text functions.DeInit ∷ call-text functions.Set ∷ call-text functions.Get ∷ call-text functions.Write ∷ call-text functions.PollWrite ∷ call-text functions.PollRead ∷ call-text functions.PollMode ∷ call-text functions.PollBusOff ∷ call-text functions.Sent ∷ call-text functions.BusOff ∷ call-text functions.Arrived ∷ call-text functions.Next ∷ [])) ≡ ascii (call-text x)
 unfolding piece-start leading
 call-found functions.Init = refl
 call-found functions.DeInit = refl
@@ -34,9 +34,10 @@ call-found functions.PollBusOff = refl
 call-found functions.Sent = refl
 call-found functions.BusOff = refl
 call-found functions.Arrived = refl
+call-found functions.Next = refl
 
 abbrev answer-texts : List ℕ
-answer-texts = joined ("accepted" ∷ "accepted: %c, %o" ∷ "accepted: waits for the mode poll" ∷ "accepted: nothing to report" ∷ "%m" ∷ "accepted: waits in object %0" ∷ "stored in object %0" ∷ "unwanted: no object fits" ∷ "lost: every object that fits is full" ∷ [])
+answer-texts = joined ("accepted" ∷ "accepted: %c, %o" ∷ "accepted: waits for the mode poll" ∷ "accepted: nothing to report" ∷ "%m" ∷ "accepted: waits in object %0" ∷ "stored in object %0" ∷ "unwanted: no object fits" ∷ "lost: every object that fits is full" ∷ "object %0 sends next" ∷ "nobody waits" ∷ [])
 
 polled-found : (silent : Bool) → piece (cond silent 3 0) answer-texts ≡ ascii (cond silent "accepted: nothing to report" "accepted")
 unfolding piece-start leading
@@ -57,11 +58,14 @@ answer-found answers.Nothing functions.PollBusOff told = polled-found (eqb told 
 answer-found answers.Nothing functions.Sent told = refl
 answer-found answers.Nothing functions.BusOff told = refl
 answer-found answers.Nothing functions.Arrived told = refl
+answer-found answers.Nothing functions.Next told = refl
 answer-found (answers.Mode m) f told = refl
 answer-found (answers.TakenBy h) f told = refl
 answer-found (answers.Stored h) f told = refl
 answer-found answers.Unwanted f told = refl
 answer-found answers.Lost f told = refl
+answer-found (answers.SendsNext h) f told = refl
+answer-found answers.Nobody f told = refl
 
 abbrev refusal-texts : List ℕ
 refusal-texts = joined ("object %0 is no configured sending object" ∷ "controller %0 is not configured" ∷ "the driver is not initialised" ∷ "the driver is initialised already" ∷ "controller %0 cannot go from %m to %m" ∷ "a controller is STARTED" ∷ "%b, and a classic frame holds at most 8" ∷ "%b, and an FD frame holds at most 64" ∷ "%b as an FD frame, and the object's payload is 8" ∷ "no FD frame on the wire has %b" ∷ "no classic frame on the wire has %b" ∷ "the sheet has %w, and a call needs %0" ∷ "the memory has %b, and the chip's has %0" ∷ "id %i is not a valid identifier" ∷ "controller %0 is not STARTED" ∷ "object %0 holds the frame of line %0" ∷ "controller %0 is off the bus" ∷ "object %0 holds no frame that waits to be sent" ∷ "the driver state is not valid" ∷ "the configuration is not valid" ∷ [])
@@ -90,6 +94,8 @@ transition-found functions.BusOff true = refl
 transition-found functions.BusOff false = refl
 transition-found functions.Arrived true = refl
 transition-found functions.Arrived false = refl
+transition-found functions.Next true = refl
+transition-found functions.Next false = refl
 
 data-found : (identifier length : ℕ) → piece (data-place identifier length) refusal-texts ≡ ascii (refusals.data-text identifier length)
 unfolding piece-start leading

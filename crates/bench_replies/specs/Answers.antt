@@ -5,10 +5,10 @@ use mathlib.Core.Bool.{cond}
 use mathlib.Core.List.{List}
 use lib.Dec.{eqb}
 use Rattle.can_calls.specs.declared.request.Function.{Function}
-use Rattle.can_calls.specs.declared.request.Function.the-variants.{Init, DeInit, Set, Get, Write, PollWrite, PollRead, PollMode, PollBusOff, Sent, BusOff, Arrived}
+use Rattle.can_calls.specs.declared.request.Function.the-variants.{Init, DeInit, Set, Get, Write, PollWrite, PollRead, PollMode, PollBusOff, Sent, BusOff, Arrived, Next}
 use Rattle.can_calls.specs.declared.answer.Answer.{Answer}
-use Rattle.can_calls.specs.declared.answer.Answer.the-variants.{Nothing, Mode, TakenBy, Stored, Unwanted, Lost}
-use Rattle.bench_say.specs.Say.{five}
+use Rattle.can_calls.specs.declared.answer.Answer.the-variants.{Nothing, Mode, TakenBy, Stored, Unwanted, Lost, SendsNext, Nobody}
+use Rattle.bench_say.specs.Say.{said, five}
 
 -- a poll that told so many notifications: they stand in lines of their own
 abbrev pub polled-text : ℕ → String
@@ -28,6 +28,7 @@ verdict-text PollBusOff told = polled-text told
 verdict-text Sent told = "accepted"
 verdict-text BusOff told = "accepted"
 verdict-text Arrived told = "accepted"
+verdict-text Next told = "accepted"
 
 abbrev pub answer-text : Answer → Function → ℕ → String
 answer-text Nothing function told = verdict-text function told
@@ -36,6 +37,8 @@ answer-text (TakenBy h) function told = "accepted: waits in object %0"
 answer-text (Stored h) function told = "stored in object %0"
 answer-text Unwanted function told = "unwanted: no object fits"
 answer-text Lost function told = "lost: every object that fits is full"
+answer-text (SendsNext h) function told = "object %0 sends next"
+answer-text Nobody function told = "nobody waits"
 
 -- the numbers of an answer: those of the configuration in use where nothing else is answered
 abbrev pub answer-numbers : Answer → ℕ → ℕ → List ℕ
@@ -45,3 +48,13 @@ answer-numbers (TakenBy h) controllers objects = five h 0 0 0 0
 answer-numbers (Stored h) controllers objects = five h 0 0 0 0
 answer-numbers Unwanted controllers objects = five 0 0 0 0 0
 answer-numbers Lost controllers objects = five 0 0 0 0 0
+answer-numbers (SendsNext h) controllers objects = five h 0 0 0 0
+answer-numbers Nobody controllers objects = five 0 0 0 0 0
+
+-- the frame that is sent next
+abbrev pub its-identifier : ℕ → List ℕ
+its-identifier identifier = said ": id %i" (five identifier 0 0 0 0)
+
+-- why nobody sends on a controller where somebody may wait
+abbrev pub off-the-bus : ℕ → List ℕ
+off-the-bus controller = said "controller %0 is off the bus" (five controller 0 0 0 0)

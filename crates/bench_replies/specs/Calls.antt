@@ -3,7 +3,7 @@ use Prim.Native.Nat.{ℕ}
 use Prim.Native.String.{String}
 use mathlib.Core.List.{List}
 use Rattle.can_calls.specs.declared.request.Function.{Function}
-use Rattle.can_calls.specs.declared.request.Function.the-variants.{Init, DeInit, Set, Get, Write, PollWrite, PollRead, PollMode, PollBusOff, Sent, BusOff, Arrived}
+use Rattle.can_calls.specs.declared.request.Function.the-variants.{Init, DeInit, Set, Get, Write, PollWrite, PollRead, PollMode, PollBusOff, Sent, BusOff, Arrived, Next}
 use Rattle.can_calls.specs.declared.request.Request.{Request}
 use Rattle.bench_say.specs.Say.{five}
 
@@ -21,6 +21,7 @@ call-text PollBusOff = "poll busoff"
 call-text Sent = "sent from object %0"
 call-text BusOff = "busoff of controller %0"
 call-text Arrived = "arrived on controller %0, id %i, %b"
+call-text Next = "next on controller %0"
 
 -- the numbers of a call that brings so many bytes, in the order of its text
 abbrev pub numbers-of : Function → Request → ℕ → List ℕ
@@ -36,6 +37,7 @@ numbers-of PollBusOff r bytes = five 0 0 0 0 0
 numbers-of Sent r bytes = five (r .object) 0 0 0 0
 numbers-of BusOff r bytes = five (r .controller) 0 0 0 0
 numbers-of Arrived r bytes = five (r .controller) (r .identifier) bytes 0 0
+numbers-of Next r bytes = five (r .controller) 0 0 0 0
 
 abbrev pub call-numbers : Request → ℕ → List ℕ
 call-numbers r bytes = numbers-of (r .function) r bytes

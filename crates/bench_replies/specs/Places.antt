@@ -4,9 +4,9 @@ use mathlib.Core.Bool.{Bool, cond}
 use lib.Dec.{eqb, ltb}
 use Rattle.rules.specs.Can.{is-fd, longest-fd}
 use Rattle.can_calls.specs.declared.request.Function.{Function}
-use Rattle.can_calls.specs.declared.request.Function.the-variants.{Init, DeInit, Set, Get, Write, PollWrite, PollRead, PollMode, PollBusOff, Sent, BusOff, Arrived}
+use Rattle.can_calls.specs.declared.request.Function.the-variants.{Init, DeInit, Set, Get, Write, PollWrite, PollRead, PollMode, PollBusOff, Sent, BusOff, Arrived, Next}
 use Rattle.can_calls.specs.declared.answer.Answer.{Answer}
-use Rattle.can_calls.specs.declared.answer.Answer.the-variants.{Nothing, Mode, TakenBy, Stored, Unwanted, Lost}
+use Rattle.can_calls.specs.declared.answer.Answer.the-variants.{Nothing, Mode, TakenBy, Stored, Unwanted, Lost, SendsNext, Nobody}
 use Rattle.core_answers.specs.declared.rejection.Rejection.{Rejection}
 use Rattle.core_answers.specs.declared.rejection.Rejection.the-variants as rejections
 
@@ -23,6 +23,7 @@ call-place PollBusOff = 8
 call-place Sent = 9
 call-place BusOff = 10
 call-place Arrived = 11
+call-place Next = 12
 
 abbrev pub polled-place : ℕ → ℕ
 polled-place told = cond (eqb told 0) 3 0
@@ -40,6 +41,7 @@ verdict-place PollBusOff polled = polled
 verdict-place Sent polled = 0
 verdict-place BusOff polled = 0
 verdict-place Arrived polled = 0
+verdict-place Next polled = 0
 
 abbrev pub answer-place : Answer → ℕ → ℕ
 answer-place Nothing verdict = verdict
@@ -48,6 +50,8 @@ answer-place (TakenBy h) verdict = 5
 answer-place (Stored h) verdict = 6
 answer-place Unwanted verdict = 7
 answer-place Lost verdict = 8
+answer-place (SendsNext h) verdict = 9
+answer-place Nobody verdict = 10
 
 abbrev pub other-place : Bool → ℕ
 other-place initialised = cond initialised 5 2
@@ -65,6 +69,7 @@ transition-place PollBusOff other = other
 transition-place Sent other = other
 transition-place BusOff other = other
 transition-place Arrived other = other
+transition-place Next other = other
 
 abbrev pub data-place : ℕ → ℕ → ℕ
 data-place identifier length = cond (is-fd identifier) (cond (ltb longest-fd length) 7 8) 6

@@ -33,6 +33,7 @@ transition-text functions.PollBusOff initialised = other-text initialised
 transition-text functions.Sent initialised = other-text initialised
 transition-text functions.BusOff initialised = other-text initialised
 transition-text functions.Arrived initialised = other-text initialised
+transition-text functions.Next initialised = other-text initialised
 
 -- 3: data that does not fit the format or the object
 abbrev pub data-text : ℕ → ℕ → String

@@ -2,9 +2,10 @@
 ghost use mathlib.Core.Path.{_≡_};
 ghost use Rattle.bench_text.specs.Put.{Put};
 ghost use Rattle.bench_say.specs.Say.{said};
-ghost use Rattle.bench_replies.specs.Answers.{answer-text, answer-numbers};
+ghost use Rattle.bench_replies.specs.Answers.{answer-text, answer-numbers, its-identifier, off-the-bus};
 ghost use Rattle.bench_replies.specs.Places.{polled-place, verdict-place, answer-place};
 use bench_say::say::NUMBERS;
+use bench_say::say::say;
 use bench_say::say::say_one;
 use can_calls::answer::Answer;
 use can_calls::request::Function;
@@ -33,6 +34,7 @@ fn verdict_place(function: Function, polled: usize) -> usize
         Function::Sent => 0,
         Function::BusOff => 0,
         Function::Arrived => 0,
+        Function::Next => 0,
     }
 }
 
@@ -46,6 +48,8 @@ fn place(answer: Answer, verdict: usize) -> usize
         Answer::Stored(_) => 6,
         Answer::Unwanted => 7,
         Answer::Lost => 8,
+        Answer::SendsNext(_) => 9,
+        Answer::Nobody => 10,
     }
 }
 
@@ -60,6 +64,8 @@ fn numbers(answer: Answer, controllers: u64, objects: u64) -> [u64; NUMBERS]
         Answer::Stored(h) => [h as u64, 0, 0, 0, 0],
         Answer::Unwanted => [0, 0, 0, 0, 0],
         Answer::Lost => [0, 0, 0, 0, 0],
+        Answer::SendsNext(h) => [h as u64, 0, 0, 0, 0],
+        Answer::Nobody => [0, 0, 0, 0, 0],
     }
 }
 
@@ -83,7 +89,28 @@ pub fn answer(
         accepted: waits in object %0|\
         stored in object %0|\
         unwanted: no object fits|\
-        lost: every object that fits is full";
+        lost: every object that fits is full|\
+        object %0 sends next|\
+        nobody waits";
     let place = place(answer, verdict_place(function, polled_place(told)));
     say_one(out, at, texts, place, numbers(answer, controllers, objects))
+}
+
+// The frame that is sent next.
+pub fn its_identifier(out: &mut [u8], at: usize, identifier: u64) -> usize
+    ensures { λ r. ⌜ Put at (its-identifier identifier) (now (out .entry)) (now (out .exit)) r ⌝ }
+{
+    say(out, at, b": id %i", [identifier, 0, 0, 0, 0])
+}
+
+// Why nobody sends on a controller where somebody may wait.
+pub fn off_the_bus(out: &mut [u8], at: usize, controller: u64) -> usize
+    ensures { λ r. ⌜ Put at (off-the-bus controller) (now (out .entry)) (now (out .exit)) r ⌝ }
+{
+    say(
+        out,
+        at,
+        b"controller %0 is off the bus",
+        [controller, 0, 0, 0, 0],
+    )
 }

@@ -25,6 +25,7 @@ fn place(function: Function) -> usize
         Function::Sent => 9,
         Function::BusOff => 10,
         Function::Arrived => 11,
+        Function::Next => 12,
     }
 }
 
@@ -51,6 +52,7 @@ fn numbers(request: Request, bytes: u32) -> [u64; NUMBERS]
         Function::Sent => [object, 0, 0, 0, 0],
         Function::BusOff => [controller, 0, 0, 0, 0],
         Function::Arrived => [controller, identifier, length, 0, 0],
+        Function::Next => [controller, 0, 0, 0, 0],
     }
 }
 
@@ -69,7 +71,8 @@ pub fn call(out: &mut [u8], at: usize, request: Request, bytes: u32) -> usize
         poll busoff|\
         sent from object %0|\
         busoff of controller %0|\
-        arrived on controller %0, id %i, %b";
+        arrived on controller %0, id %i, %b|\
+        next on controller %0";
     let function = request.function;
     say_one(out, at, texts, place(function), numbers(request, bytes))
 }

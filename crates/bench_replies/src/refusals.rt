@@ -49,6 +49,7 @@ fn transition_place(function: Function, other: usize) -> usize
         Function::Sent => other,
         Function::BusOff => other,
         Function::Arrived => other,
+        Function::Next => other,
     }
 }
 

@@ -1,7 +1,7 @@
 -- The call that each command asks for, as docs/BENCH.md has them: the function, and which word of the line it takes as what.
 use Prim.Native.Nat.{ℕ}
 use Rattle.bench_script.specs.declared.command.Command.{Command}
-use Rattle.bench_script.specs.declared.command.Command.the-variants.{Blank, Init, InitInWords, DeInit, Set, Get, Write, PollWrite, PollRead, PollMode, PollBusOff, Sent, BusOff, Arrived, Data, Sheet, Memory, Show, State, Controllers, Send, Receive, Unreadable}
+use Rattle.bench_script.specs.declared.command.Command.the-variants.{Blank, Init, InitInWords, DeInit, Set, Get, Write, PollWrite, PollRead, PollMode, PollBusOff, Sent, BusOff, Arrived, Next, Data, Sheet, Memory, Show, State, Config, Controllers, Send, SendInPool, Receive, Unreadable}
 use Rattle.can_calls.specs.declared.request.Function.the-variants as functions
 use Rattle.can_calls.specs.declared.request.Request.{Request}
 use Rattle.bench_requests.specs.declared.request.Asks.{Asks}
@@ -32,13 +32,16 @@ request-of PollBusOff = call (record { function = functions.PollBusOff; controll
 request-of (Sent obj) = call (record { function = functions.Sent; controller = 0; object = obj; number = 0; identifier = 0 }) 0
 request-of (BusOff c) = call (record { function = functions.BusOff; controller = c; object = 0; number = 0; identifier = 0 }) 0
 request-of (Arrived c id bytes) = call (record { function = functions.Arrived; controller = c; object = 0; number = 0; identifier = id }) bytes
+request-of (Next c) = call (record { function = functions.Next; controller = c; object = 0; number = 0; identifier = 0 }) 0
 request-of Blank = Other
 request-of (Data obj) = Other
 request-of (Sheet n) = Other
 request-of (Memory n) = Other
 request-of (Show obj) = Other
 request-of State = Other
+request-of (Config v n) = Other
 request-of (Controllers n) = Other
 request-of (Send c p x) = Other
+request-of (SendInPool c p x n) = Other
 request-of (Receive c p code mask) = Other
 request-of (Unreadable trouble) = Other

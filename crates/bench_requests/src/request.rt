@@ -85,6 +85,7 @@ pub fn request_of(command: Command) -> Asks
             identifier,
             length,
         } => call(Function::Arrived, controller, 0, 0, identifier, length),
+        Command::Next { controller } => call(Function::Next, controller, 0, 0, 0, 0),
         Command::InitInWords => Asks::InitInWords,
         Command::Blank => Asks::Other,
         Command::Data { object: _ } => Asks::Other,
@@ -92,11 +93,21 @@ pub fn request_of(command: Command) -> Asks
         Command::Memory { bytes: _ } => Asks::Other,
         Command::Show { object: _ } => Asks::Other,
         Command::State => Asks::Other,
+        Command::Config {
+            version: _,
+            room: _,
+        } => Asks::Other,
         Command::Controllers { count: _ } => Asks::Other,
         Command::Send {
             controller: _,
             payload: _,
             padding: _,
+        } => Asks::Other,
+        Command::SendInPool {
+            controller: _,
+            payload: _,
+            padding: _,
+            pool: _,
         } => Asks::Other,
         Command::Receive {
             controller: _,

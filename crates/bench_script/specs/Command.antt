@@ -8,20 +8,20 @@ use lib.Dec.{ltb, leb}
 use Rattle.rules.specs.Bytes.{same-bytes, splice}
 use Rattle.bench_words.specs.Text.{ascii}
 use Rattle.bench_words.specs.Split.{word, is-missing, first, after}
-use Rattle.bench_words.specs.Reading.{number-of, limited-to, mode-of, identifier-of, bytes-of, longest-line, largest-handle, largest-sheet, largest-memory, largest-byte}
+use Rattle.bench_words.specs.Reading.{number-of, limited-to, mode-of, identifier-of, bytes-of, longest-line, largest-handle, largest-sheet, largest-memory, largest-room, largest-byte}
 use Rattle.bench_script.specs.Name.{name-of, arguments-of}
 use Rattle.bench_script.specs.Object.{object-of}
 use Rattle.bench_script.specs.With.{with-value}
 use Rattle.bench_script.specs.declared.name.Name.{Name}
 use Rattle.bench_script.specs.declared.name.Name.the-variants as names
 use Rattle.bench_words.specs.declared.reading.Trouble.{Trouble}
-use Rattle.bench_words.specs.declared.reading.Trouble.the-variants.{LineTooLong, UnknownCommand, WordMissing, WordTooMany, UnknownPoll, HandleTooLarge, SheetTooLong, MemoryTooLong, ByteTooLarge}
+use Rattle.bench_words.specs.declared.reading.Trouble.the-variants.{LineTooLong, UnknownCommand, WordMissing, WordTooMany, UnknownPoll, HandleTooLarge, SheetTooLong, MemoryTooLong, RoomTooLarge, ByteTooLarge}
 use Rattle.bench_words.specs.declared.reading.Reading.{Reading}
 use Rattle.bench_words.specs.declared.reading.Reading.the-variants as readings
 use Rattle.bench_script.specs.declared.command.Numbered.{Numbered}
 use Rattle.bench_script.specs.declared.command.Numbered.the-variants as numbered
 use Rattle.bench_script.specs.declared.command.Command.{Command}
-use Rattle.bench_script.specs.declared.command.Command.the-variants.{Blank, Init, InitInWords, DeInit, Set, Get, Write, PollWrite, PollRead, PollMode, PollBusOff, Sent, BusOff, Arrived, Data, Sheet, Memory, Show, State, Controllers, Unreadable}
+use Rattle.bench_script.specs.declared.command.Command.the-variants.{Blank, Init, InitInWords, DeInit, Set, Get, Write, PollWrite, PollRead, PollMode, PollBusOff, Sent, BusOff, Arrived, Next, Data, Sheet, Memory, Show, State, Config, Controllers, Unreadable}
 
 -- what a line says: a command, and the bytes that it brings
 abbrev pub Said : Type 0
@@ -55,19 +55,27 @@ abbrev pub of-number : Numbered → ℕ → Command
 of-number numbered.Get c = Get c
 of-number numbered.Sent h = Sent h
 of-number numbered.BusOff c = BusOff c
+of-number numbered.Next c = Next c
 of-number numbered.Data h = Data h
 of-number numbered.Show h = Show h
 of-number numbered.Sheet n = Sheet n
 of-number numbered.Memory n = Memory n
 of-number numbered.Controllers n = Controllers n
 
--- get C, sent OBJ, busoff C, data OBJ, show OBJ
+-- get C, sent OBJ, busoff C, next C, data OBJ, show OBJ
 abbrev pub with-number : Numbered → List ℕ → Command
 with-number what text = with-value (number-of (first text)) (of-number what)
 
 -- sheet N, memory N, controllers N: the number has a limit, and one above it has trouble of its own
 abbrev pub with-limited : Numbered → ℕ → Trouble → List ℕ → Command
 with-limited what limit trouble text = with-value (limited-to limit trouble (number-of (first text))) (of-number what)
+
+-- config V ROOM
+abbrev pub config-room-of : ℕ → List ℕ → Command
+config-room-of v text = with-value (limited-to largest-room RoomTooLarge (number-of (first text))) (λ n. Config v n)
+
+abbrev pub config-of : List ℕ → Command
+config-of text = with-value (number-of (first text)) (λ v. config-room-of v (after text))
 
 -- write OBJ HANDLE ID BYTES
 abbrev pub write-frame-of : ℕ → ℕ → ℕ → List ℕ → Said
@@ -111,11 +119,13 @@ named names.Poll text = silent (poll-of (first text))
 named names.Sent text = silent (with-number numbered.Sent text)
 named names.BusOff text = silent (with-number numbered.BusOff text)
 named names.Arrived text = arrived-of text
+named names.Next text = silent (with-number numbered.Next text)
 named names.Data text = silent (with-number numbered.Data text)
 named names.Sheet text = silent (with-limited numbered.Sheet largest-sheet SheetTooLong text)
 named names.Memory text = silent (with-limited numbered.Memory largest-memory MemoryTooLong text)
 named names.Show text = silent (with-number numbered.Show text)
 named names.State text = silent State
+named names.Config text = silent (config-of text)
 named names.Controllers text = silent (with-limited numbered.Controllers largest-byte ByteTooLarge text)
 named names.Object text = silent (object-of text)
 named names.Unknown text = silent (Unreadable UnknownCommand)

@@ -6,9 +6,10 @@ use Rattle.rules.specs.Bytes.{same-bytes}
 use Rattle.bench_words.specs.Text.{ascii}
 use Rattle.bench_script.specs.declared.name.Arguments.{Arguments}
 use Rattle.bench_script.specs.declared.name.Name.{Name}
-use Rattle.bench_script.specs.declared.name.Name.the-variants.{Init, DeInit, Set, Get, Write, Poll, Sent, BusOff, Arrived, Data, Sheet, Memory, Show, State, Controllers, Object, Unknown}
+use Rattle.bench_script.specs.declared.name.Name.the-variants.{Init, DeInit, Set, Get, Write, Poll, Sent, BusOff, Arrived, Next, Data, Sheet, Memory, Show, State, Config, Controllers, Object, Unknown}
 
--- the commands' names: init, deinit, set, get, write, poll, sent, busoff, arrived, data, sheet, memory, show, state, controllers, object
+-- the commands' names: init, deinit, set, get, write, poll, sent, busoff, arrived, next, data, sheet, memory, show, state, config, controllers,
+-- object
 abbrev pub names : List (List ℕ × Name)
 names =
     (ascii "init", Init)
@@ -20,11 +21,13 @@ names =
     ∷ (ascii "sent", Sent)
     ∷ (ascii "busoff", BusOff)
     ∷ (ascii "arrived", Arrived)
+    ∷ (ascii "next", Next)
     ∷ (ascii "data", Data)
     ∷ (ascii "sheet", Sheet)
     ∷ (ascii "memory", Memory)
     ∷ (ascii "show", Show)
     ∷ (ascii "state", State)
+    ∷ (ascii "config", Config)
     ∷ (ascii "controllers", Controllers)
     ∷ (ascii "object", Object)
     ∷ []
@@ -58,11 +61,13 @@ arguments-of Poll = exactly 1
 arguments-of Sent = exactly 1
 arguments-of BusOff = exactly 1
 arguments-of Arrived = at-least 3
+arguments-of Next = exactly 1
 arguments-of Data = exactly 1
 arguments-of Sheet = exactly 1
 arguments-of Memory = exactly 1
 arguments-of Show = exactly 1
 arguments-of State = exactly 0
+arguments-of Config = exactly 2
 arguments-of Controllers = exactly 1
 arguments-of Object = at-least 1
 arguments-of Unknown = at-least 0

@@ -11,11 +11,11 @@ use Rattle.bench_words.specs.declared.reading.Trouble.the-variants.{WordMissing
 use Rattle.bench_words.specs.declared.reading.Reading.{Reading}
 use Rattle.bench_words.specs.declared.reading.Reading.the-variants as readings
 use Rattle.bench_script.specs.declared.object.Kind.{Kind}
-use Rattle.bench_script.specs.declared.object.Kind.the-variants.{Sending, Receiving}
+use Rattle.bench_script.specs.declared.object.Kind.the-variants.{Sending, Pooled, Receiving}
 use Rattle.bench_script.specs.declared.object.Value.{Value}
 use Rattle.bench_script.specs.declared.object.Value.the-variants.{Number, Byte, Identifier}
 use Rattle.bench_script.specs.declared.command.Command.{Command}
-use Rattle.bench_script.specs.declared.command.Command.the-variants.{Send, Receive, Unreadable}
+use Rattle.bench_script.specs.declared.command.Command.the-variants.{Send, SendInPool, Receive, Unreadable}
 
 -- a number that fits a byte, a byte of two digits, or an identifier
 abbrev pub value-of : Value → List ℕ → Reading
@@ -41,6 +41,9 @@ payload-word = ascii "payload"
 abbrev pub padding-word : List ℕ
 padding-word = ascii "padding"
 
+abbrev pub pool-word : List ℕ
+pool-word = ascii "pool"
+
 abbrev pub code-word : List ℕ
 code-word = ascii "code"
 
@@ -51,6 +54,11 @@ mask-word = ascii "mask"
 abbrev pub send-of : ℕ → ℕ → List ℕ → Command
 send-of c p text = with-value (field-of padding-word Byte text) (λ x. Send c p x)
 
+-- padding XX pool N
+abbrev pub pooled-of : ℕ → ℕ → List ℕ → Command
+pooled-of c p text =
+    with-value (field-of padding-word Byte text) (λ x. with-value (field-of pool-word Number (behind-field text)) (λ n. SendInPool c p x n))
+
 -- code ID mask ID
 abbrev pub receive-of : ℕ → ℕ → List ℕ → Command
 receive-of c p text =
@@ -58,6 +66,7 @@ receive-of c p text =
 
 abbrev pub of-kind : Kind → ℕ → ℕ → List ℕ → Command
 of-kind Sending c p text = send-of c p text
+of-kind Pooled c p text = pooled-of c p text
 of-kind Receiving c p text = receive-of c p text
 
 -- payload P, and what an object of its kind takes
@@ -73,8 +82,12 @@ abbrev pub sized : ℕ → List ℕ → Command → Command
 sized count text command =
     cond (is-missing (count - 1) text) (Unreadable WordMissing) (cond (not (is-missing count text)) (Unreadable WordTooMany) command)
 
+-- send ..: a word behind the padding says that a pool follows
+abbrev pub sending-of : List ℕ → Command
+sending-of text = cond (is-missing 6 text) (sized 6 text (fields-of Sending text)) (sized 8 text (fields-of Pooled text))
+
 -- send .. or receive ..
 unfoldable pub object-of : List ℕ → Command
 object-of text =
-    cond (same-bytes (first text) (ascii "send")) (sized 6 (after text) (fields-of Sending (after text)))
+    cond (same-bytes (first text) (ascii "send")) (sending-of (after text))
     (cond (same-bytes (first text) (ascii "receive")) (sized 8 (after text) (fields-of Receiving (after text))) (Unreadable UnknownKind))

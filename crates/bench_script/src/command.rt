@@ -58,6 +58,10 @@ pub enum Command {
         identifier: u32,
         length: u32,
     },
+    // Who sends next on a controller.
+    Next {
+        controller: u32,
+    },
     Data {
         object: u32,
     },
@@ -71,6 +75,11 @@ pub enum Command {
         object: u32,
     },
     State,
+    // The driver's configuration, written as bytes of a version into so much room.
+    Config {
+        version: u32,
+        room: u32,
+    },
     // A configuration in words begins, and an object of it that sends or receives.
     Controllers {
         count: u32,
@@ -79,6 +88,12 @@ pub enum Command {
         controller: u32,
         payload: u32,
         padding: u32,
+    },
+    SendInPool {
+        controller: u32,
+        payload: u32,
+        padding: u32,
+        pool: u32,
     },
     Receive {
         controller: u32,
@@ -94,6 +109,7 @@ pub enum Numbered {
     Get,
     Sent,
     BusOff,
+    Next,
     Data,
     Show,
     Sheet,
@@ -101,12 +117,14 @@ pub enum Numbered {
     Controllers,
 }
 
-// The largest handle, sheet and memory that a line may name.
+// The largest handle, sheet, memory and room that a line may name.
 const LARGEST_HANDLE: u32 = 65535;
 
 pub const LARGEST_SHEET: usize = 4096;
 
 pub const LARGEST_MEMORY: usize = 16384;
+
+pub const LARGEST_ROOM: usize = 4096;
 
 // The largest number that fits a byte.
 pub const LARGEST_BYTE: u32 = 255;
@@ -159,6 +177,7 @@ fn of_number(what: Numbered, reading: Reading) -> Command
             Numbered::Get => Command::Get { controller: n },
             Numbered::Sent => Command::Sent { object: n },
             Numbered::BusOff => Command::BusOff { controller: n },
+            Numbered::Next => Command::Next { controller: n },
             Numbered::Data => Command::Data { object: n },
             Numbered::Show => Command::Show { object: n },
             Numbered::Sheet => Command::Sheet { words: n },
@@ -168,7 +187,7 @@ fn of_number(what: Numbered, reading: Reading) -> Command
     }
 }
 
-// get C, sent OBJ, busoff C, data OBJ, show OBJ
+// get C, sent OBJ, busoff C, next C, data OBJ, show OBJ
 fn with_number(text: &[u8], what: Numbered) -> Command
     ensures { λ r. ⌜ r ≡ commands.with-number what (now (text .entry)) ⌝ }
 {
@@ -180,6 +199,30 @@ fn with_limited(text: &[u8], what: Numbered, limit: u32, trouble: Trouble) -> Co
     ensures { λ r. ⌜ r ≡ commands.with-limited what limit trouble (now (text .entry)) ⌝ }
 {
     of_number(what, limited(first(text), limit, trouble))
+}
+
+// config V ROOM
+fn config(text: &[u8]) -> Command
+    ensures { λ r. ⌜ r ≡ commands.config-of (now (text .entry)) ⌝ }
+{
+    let version = number(first(text));
+    match version {
+        Reading::Unreadable(t) => Command::Unreadable(t),
+        Reading::Value(v) => config_in(after(text), v),
+    }
+}
+
+fn config_in(text: &[u8], version: u32) -> Command
+    ensures { λ r. ⌜ r ≡ commands.config-room-of version (now (text .entry)) ⌝ }
+{
+    let room = limited(first(text), LARGEST_ROOM as u32, Trouble::RoomTooLarge);
+    match room {
+        Reading::Unreadable(t) => Command::Unreadable(t),
+        Reading::Value(n) => Command::Config {
+            version: version,
+            room: n,
+        },
+    }
 }
 
 // poll write | read | mode | busoff
@@ -307,6 +350,7 @@ fn named(name: Name, text: &[u8], out: &mut [u8; MOST_BYTES]) -> Command
         Name::Sent => with_number(text, Numbered::Sent),
         Name::BusOff => with_number(text, Numbered::BusOff),
         Name::Arrived => arrived(text, out),
+        Name::Next => with_number(text, Numbered::Next),
         Name::Data => with_number(text, Numbered::Data),
         Name::Sheet => with_limited(
             text,
@@ -322,6 +366,7 @@ fn named(name: Name, text: &[u8], out: &mut [u8; MOST_BYTES]) -> Command
         ),
         Name::Show => with_number(text, Numbered::Show),
         Name::State => Command::State,
+        Name::Config => config(text),
         Name::Controllers => with_limited(
             text,
             Numbered::Controllers,

@@ -15,11 +15,13 @@ pub enum Name {
     Sent,
     BusOff,
     Arrived,
+    Next,
     Data,
     Sheet,
     Memory,
     Show,
     State,
+    Config,
     Controllers,
     Object,
     Unknown,
@@ -38,11 +40,13 @@ pub fn name_of(word: &[u8]) -> Name
 {
     let name = named_or(word, b"object", Name::Object, Name::Unknown);
     let name = named_or(word, b"controllers", Name::Controllers, name);
+    let name = named_or(word, b"config", Name::Config, name);
     let name = named_or(word, b"state", Name::State, name);
     let name = named_or(word, b"show", Name::Show, name);
     let name = named_or(word, b"memory", Name::Memory, name);
     let name = named_or(word, b"sheet", Name::Sheet, name);
     let name = named_or(word, b"data", Name::Data, name);
+    let name = named_or(word, b"next", Name::Next, name);
     let name = named_or(word, b"arrived", Name::Arrived, name);
     let name = named_or(word, b"busoff", Name::BusOff, name);
     let name = named_or(word, b"sent", Name::Sent, name);
@@ -74,11 +78,13 @@ pub fn arguments_of(name: Name) -> Arguments
         Name::Sent => Arguments { n: 1, more: false },
         Name::BusOff => Arguments { n: 1, more: false },
         Name::Arrived => Arguments { n: 3, more: true },
+        Name::Next => Arguments { n: 1, more: false },
         Name::Data => Arguments { n: 1, more: false },
         Name::Sheet => Arguments { n: 1, more: false },
         Name::Memory => Arguments { n: 1, more: false },
         Name::Show => Arguments { n: 1, more: false },
         Name::State => Arguments { n: 0, more: false },
+        Name::Config => Arguments { n: 2, more: false },
         Name::Controllers => Arguments { n: 1, more: false },
         Name::Object => Arguments { n: 1, more: true },
         Name::Unknown => Arguments { n: 0, more: true },

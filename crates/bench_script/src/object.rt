@@ -21,9 +21,10 @@ pub enum Value {
     Identifier,
 }
 
-// An object sends or receives.
+// An object sends, sends from a pool that its line names, or receives.
 pub enum Kind {
     Sending,
+    Pooled,
     Receiving,
 }
 
@@ -69,6 +70,26 @@ fn send(text: &[u8], controller: u32, payload: u32) -> Command
     }
 }
 
+// padding XX pool N
+fn pooled(text: &[u8], controller: u32, payload: u32) -> Command
+    ensures { λ r. ⌜ r ≡ objects.pooled-of controller payload (now (text .entry)) ⌝ }
+{
+    let padding = field(text, b"padding", Value::Byte);
+    let pool = field(behind(text), b"pool", Value::Number);
+    match padding {
+        Reading::Unreadable(t) => Command::Unreadable(t),
+        Reading::Value(x) => match pool {
+            Reading::Unreadable(t) => Command::Unreadable(t),
+            Reading::Value(n) => Command::SendInPool {
+                controller: controller,
+                payload: payload,
+                padding: x,
+                pool: n,
+            },
+        },
+    }
+}
+
 // code ID mask ID
 fn receive(text: &[u8], controller: u32, payload: u32) -> Command
     ensures { λ r. ⌜ r ≡ objects.receive-of controller payload (now (text .entry)) ⌝ }
@@ -95,6 +116,7 @@ fn of_kind(text: &[u8], kind: Kind, controller: u32, payload: u32) -> Command
 {
     match kind {
         Kind::Sending => send(text, controller, payload),
+        Kind::Pooled => pooled(text, controller, payload),
         Kind::Receiving => receive(text, controller, payload),
     }
 }
@@ -135,13 +157,23 @@ fn sized(text: &[u8], count: usize, kind: Kind) -> Command
     fields(text, kind)
 }
 
+// send ..: a word behind the padding says that a pool follows.
+fn sending(text: &[u8]) -> Command
+    ensures { λ r. ⌜ r ≡ objects.sending-of (now (text .entry)) ⌝ }
+{
+    if word(text, 6).len() == 0 {
+        return sized(text, 6, Kind::Sending);
+    }
+    sized(text, 8, Kind::Pooled)
+}
+
 // send .. or receive ..
 pub fn object(text: &[u8]) -> Command
     ensures { λ r. ⌜ r ≡ objects.object-of (now (text .entry)) ⌝ }
 {
     let word = first(text);
     if same(word, b"send") {
-        return sized(after(text), 6, Kind::Sending);
+        return sending(after(text));
     }
     if same(word, b"receive") {
         return sized(after(text), 8, Kind::Receiving);

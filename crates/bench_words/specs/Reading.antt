@@ -125,7 +125,7 @@ unfoldable pub limited-to : ℕ → Trouble → Reading → Reading
 limited-to limit trouble (Value n) = cond (ltb limit n) (Unreadable trouble) (Value n)
 limited-to limit trouble (Unreadable t) = Unreadable t
 
--- the largest handle, words of a sheet and bytes of a memory that a line may ask for
+-- the largest handle, words of a sheet, bytes of a memory and room for a configuration that a line may ask for
 abbrev pub largest-handle : ℕ
 largest-handle = 65535
 
@@ -134,6 +134,9 @@ largest-sheet = 4096
 
 abbrev pub largest-memory : ℕ
 largest-memory = 16384
+
+abbrev pub largest-room : ℕ
+largest-room = 4096
 
 -- the largest number that fits a byte
 abbrev pub largest-byte : ℕ

@@ -18,6 +18,7 @@ pub enum Trouble {
     HandleTooLarge,
     SheetTooLong,
     MemoryTooLong,
+    RoomTooLarge,
     ByteTooLarge,
     UnexpectedWord,
     UnknownKind,

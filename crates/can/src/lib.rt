@@ -30,13 +30,17 @@ pub use can_state::called::Arrived;
 pub use can_state::called::Called;
 pub use can_state::called::ModeAsked;
 pub use can_state::called::Written;
+pub use can_writer::reply::ConfigReply;
+pub use can_writer::reply::config_verdict;
 pub use core_answers::rejection::Rejection;
 pub use core_answers::rejection::reason;
 pub use core_answers::reply::ArrivalReply;
 pub use core_answers::reply::ModeReply;
+pub use core_answers::reply::NextReply;
 pub use core_answers::reply::WriteReply;
 pub use core_answers::reply::arrival_verdict;
 pub use core_answers::reply::mode_verdict;
+pub use core_answers::reply::next_verdict;
 pub use core_answers::reply::write_verdict;
 pub use core_answers::verdict::Verdict;
 pub use core_answers::verdict::return_code;
@@ -77,6 +81,13 @@ pub use can_events::bus_off_detected::bus_off_detected;
 
 // Arrived: a frame came in. It is stored, unwanted or lost.
 pub use can_arrivals::frame_arrived::frame_arrived;
+
+// Who sends next: the object whose frame goes out first on a controller. Nothing changes.
+pub use can_arbitration::next::next_to_send;
+
+// The configuration that a state has, and its bytes in a version.
+pub use can_writer::state::configuration_of;
+pub use can_writer::write::write_configuration;
 
 // Data of an object: the part of the RAM that holds its data.
 pub use can_layout::read::data_of;

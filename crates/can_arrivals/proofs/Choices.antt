@@ -11,7 +11,6 @@ use Rattle.rules.specs.Configuration.{settings-at}
 use Rattle.rules.specs.State.{State}
 use Rattle.rules.specs.Events.{fits-frame, best-object}
 use Rattle.rules.specs.Can.{Frame, can-format, filter-accepts}
-use Rattle.core_places.proofs.Laws.{owner-seen}
 use Rattle.core_events.specs.declared.pick.Pick.{Pick}
 use Rattle.core_events.specs.declared.pick.Pick.the-variants.{Nobody}
 use Rattle.core_events.specs.Pick.{view-pick, better-pick}
@@ -53,11 +52,10 @@ pub record Choosing (c identifier count : ℕ) (owners : List ℕ) (receivings f
 
 -- what the code reads of object h is what the rules see
 seen : (c identifier : ℕ) {count : ℕ} {owners : List ℕ} {receivings fulls : List Bool} {payloads codes masks : List ℕ} (s : State can-format) → Filtered s count owners receivings fulls payloads codes masks → length receivings ≡ length owners → (h : ℕ) (full : Bool)
-    → (fits-frame c (record { controller = getD owners h 0; receiving = getD receivings h false }) (filter-accepts identifier (getD codes h 0) (getD masks h 0) (getD payloads h 0)) && Bool·beq (getD fulls h false) full)
+    → (fits-frame c (record { controller = getD owners h 0; receiving = getD receivings h false; pool = 0 }) (filter-accepts identifier (getD codes h 0) (getD masks h 0) (getD payloads h 0)) && Bool·beq (getD fulls h false) full)
     ≡ candidate s c identifier full h
 seen c identifier {count} {owners} {receivings} {fulls} {payloads} {codes} {masks} s f long h full =
-    let own : owner-at (s .core .owners) h ≡ record { controller = getD owners h 0; receiving = getD receivings h false } = rw (f .owners-are) (owner-seen owners receivings h long) in
-    rw (own, f .codes-are h, f .masks-are h, f .payloads-are h, f .fulls-are h)
+    rw (f .owned .controller-is h, f .owned .kind-is h, f .codes-are h, f .masks-are h, f .payloads-are h, f .fulls-are h)
 
 module _ {c identifier count : ℕ} {owners : List ℕ} {receivings fulls : List Bool} {payloads codes masks : List ℕ} where
   pub choice-begins : Choosing c identifier count owners receivings fulls payloads codes masks (record { empty = Nobody; full = Nobody }) 0
@@ -65,7 +63,7 @@ module _ {c identifier count : ℕ} {owners : List ℕ} {receivings fulls : List
   choice-begins = record { within = omega arith; empty-so = λ s f. refl; full-so = λ s f. refl }
 
   pub choice-goes-on : {best r : Choice} {h : ℕ} → Choosing c identifier count owners receivings fulls payloads codes masks best h → h < count → length receivings ≡ length owners
-      → Compared h (fits-frame c (record { controller = getD owners h 0; receiving = getD receivings h false }) (filter-accepts identifier (getD codes h 0) (getD masks h 0) (getD payloads h 0))) (getD fulls h false) best r
+      → Compared h (fits-frame c (record { controller = getD owners h 0; receiving = getD receivings h false; pool = 0 }) (filter-accepts identifier (getD codes h 0) (getD masks h 0) (getD payloads h 0))) (getD fulls h false) best r
       → Choosing c identifier count owners receivings fulls payloads codes masks r (h + 1)
   choice-goes-on {best} {r} {h} x l long compared =
       record {

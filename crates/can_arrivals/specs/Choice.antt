@@ -10,7 +10,8 @@ use Rattle.rules.specs.State.{State}
 use Rattle.rules.specs.Calls.{best-object}
 use Rattle.rules.specs.Can.{Frame, can-format}
 use Rattle.rules.specs.Chip.{chip}
-use Rattle.core_places.specs.Arrays.{owners-in, mailboxes-in}
+use Rattle.core_places.specs.Arrays.{mailboxes-in}
+use Rattle.core_places.specs.Held.{Owned}
 use Rattle.core_events.specs.declared.pick.Pick.{Pick}
 use Rattle.core_events.specs.Pick.{view-pick, better-pick}
 use Rattle.can_arrivals.specs.declared.choice.Choice.{Choice}
@@ -18,7 +19,7 @@ use Rattle.can_arrivals.specs.declared.choice.Choice.{Choice}
 -- the arrays are those of a state: its objects in use, their owners, which are full, and their filters
 pub record Filtered (s : State can-format) (count : ℕ) (owners : List ℕ) (receivings fulls : List Bool) (payloads codes masks : List ℕ) : Type 0 where
   pub count-is : s .core .object-count ≡ count
-  pub owners-are : s .core .owners ≡ owners-in owners receivings
+  pub owned : Owned (s .core .owners) owners receivings
   pub fulls-are : (h : ℕ) → mailbox-at (s .core .mailboxes) h .rx-full ≡ getD fulls h false
   pub payloads-are : (h : ℕ) → settings-at can-format (s .settings) h .payload ≡ getD payloads h 0
   pub codes-are : (h : ℕ) → settings-at can-format (s .settings) h .code ≡ getD codes h 0

@@ -1,4 +1,4 @@
--- What an arm of a match knows: its function is one of those at the arm's places in the list of the twelve. What is to be shown of such a
+-- What an arm of a match knows: its function is one of those at the arm's places in the list of all. What is to be shown of such a
 -- function is a test on each of the places, which computes.
 use Prim.Native.Nat.{ℕ}
 use mathlib.Core.Path.{_≡_, refl, ap, sym, subst, _∙_}
@@ -13,12 +13,12 @@ use types.Run.{OneOf}
 use Rattle.laws.proofs.Tests.{left, right}
 use Rattle.can_calls.specs.Request.{kind}
 use Rattle.can_calls.specs.declared.request.Function.{Function}
-use Rattle.can_calls.specs.declared.request.Function.the-variants.{Init, DeInit, Set, Get, Write, PollWrite, PollRead, PollMode, PollBusOff, Sent, BusOff, Arrived}
+use Rattle.can_calls.specs.declared.request.Function.the-variants.{Init, DeInit, Set, Get, Write, PollWrite, PollRead, PollMode, PollBusOff, Sent, BusOff, Arrived, Next}
 use Rattle.can_calls.proofs.request.Function.{the-type}
 
 -- the function at a place
 abbrev pub at : ℕ → Function
-at n = getD (Init ∷ DeInit ∷ Set ∷ Get ∷ Write ∷ PollWrite ∷ PollRead ∷ PollMode ∷ PollBusOff ∷ Sent ∷ BusOff ∷ Arrived ∷ []) n Init
+at n = getD (Init ∷ DeInit ∷ Set ∷ Get ∷ Write ∷ PollWrite ∷ PollRead ∷ PollMode ∷ PollBusOff ∷ Sent ∷ BusOff ∷ Arrived ∷ Next ∷ []) n Init
 
 at-place : (f : Function) → at (tagOf the-type f) ≡ f
 at-place Init = refl
@@ -33,6 +33,7 @@ at-place PollBusOff = refl
 at-place Sent = refl
 at-place BusOff = refl
 at-place Arrived = refl
+at-place Next = refl
 
 abbrev pub every : (ℕ → Bool) → List ℕ → Bool
 every P [] = true

@@ -9,7 +9,7 @@ use Rattle.rules.specs.State.{State}
 use Rattle.rules.specs.Outcome.{Outcome, Answer, no-answer, judged, lifted}
 use Rattle.rules.specs.Services as services
 use Rattle.rules.specs.Events as events
-use Rattle.rules.specs.Calls.{set-controller-mode, get-controller-mode, tx-complete, bus-off-detected}
+use Rattle.rules.specs.Calls.{set-controller-mode, get-controller-mode, tx-complete, bus-off-detected, next-to-send}
 use Rattle.rules.specs.Can.{can-format}
 use Rattle.rules.specs.Chip.{chip}
 use Rattle.laws.proofs.Tests.{cond-map}
@@ -106,3 +106,9 @@ module _ (s : State can-format) (c : ℕ) (ram : List ℕ) {reason : ℕ} {answe
       → Performed (bus-off-detected chip can-format s ram c) reason answer state count ram sheet sheet
   unfolding bus-off-detected events.bus-off-detected
   bus-off-keeps sheet p = keeps ram (with-memory _ _ _ s ram) (silent sheet (no-notification _ _ _ refl refl) p)
+
+  -- the one that takes memory and no sheet
+  pub next-keeps : (sheet : List ℕ) → Performed (next-to-send chip can-format s ram c) reason answer state count ram [] []
+      → Performed (next-to-send chip can-format s ram c) reason answer state count ram sheet sheet
+  unfolding next-to-send events.next-to-send
+  next-keeps sheet p = silent sheet (no-notification _ _ _ refl refl) p

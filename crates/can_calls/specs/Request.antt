@@ -8,7 +8,7 @@ use Rattle.rules.specs.Calls as rules
 use Rattle.rules.specs.Can.{Frame, can-format}
 use Rattle.rules.specs.Chip.{chip}
 use Rattle.can_calls.specs.declared.request.Function.{Function}
-use Rattle.can_calls.specs.declared.request.Function.the-variants.{Init, DeInit, Set, Get, Write, PollWrite, PollRead, PollMode, PollBusOff, Sent, BusOff, Arrived}
+use Rattle.can_calls.specs.declared.request.Function.the-variants.{Init, DeInit, Set, Get, Write, PollWrite, PollRead, PollMode, PollBusOff, Sent, BusOff, Arrived, Next}
 use Rattle.can_calls.specs.declared.request.Request.{Request}
 
 -- a handle has 16 bits: of a larger number the low ones are taken
@@ -33,12 +33,13 @@ outcome-of PollBusOff request bytes s sheet ram = rules.main-function-bus-off ch
 outcome-of Sent request bytes s sheet ram = rules.tx-complete chip can-format s ram (request .object)
 outcome-of BusOff request bytes s sheet ram = rules.bus-off-detected chip can-format s ram (request .controller)
 outcome-of Arrived request bytes s sheet ram = rules.frame-arrived chip can-format s sheet ram (request .controller) (frame request bytes)
+outcome-of Next request bytes s sheet ram = rules.next-to-send chip can-format s ram (request .controller)
 
 -- what the request's own function makes of it
 abbrev pub outcome : Request → List ℕ → State can-format → ℕ → List ℕ → Outcome (State can-format)
 outcome request bytes s sheet ram = outcome-of (request .function) request bytes s sheet ram
 
--- the three kinds of call
+-- the four kinds of call
 abbrev pub SERVICE : ℕ
 SERVICE = 0
 
@@ -47,6 +48,9 @@ POLL = 1
 
 abbrev pub EVENT : ℕ
 EVENT = 2
+
+abbrev pub CHOICE : ℕ
+CHOICE = 3
 
 -- of which kind a function is
 abbrev pub kind : Function → ℕ
@@ -62,6 +66,7 @@ kind PollBusOff = POLL
 kind Sent = EVENT
 kind BusOff = EVENT
 kind Arrived = EVENT
+kind Next = CHOICE
 
 -- the bus-off poll
 abbrev pub is-bus-off-poll : Function → Bool
@@ -77,3 +82,4 @@ is-bus-off-poll PollBusOff = true
 is-bus-off-poll Sent = false
 is-bus-off-poll BusOff = false
 is-bus-off-poll Arrived = false
+is-bus-off-poll Next = false

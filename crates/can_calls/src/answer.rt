@@ -4,6 +4,7 @@ ghost use Rattle.core_answers.specs.Reply as replies;
 ghost use Rattle.can_calls.specs.Answer.{answer-of};
 use can::ArrivalReply;
 use can::ModeReply;
+use can::NextReply;
 use can::WriteReply;
 
 pub enum Answer {
@@ -13,6 +14,8 @@ pub enum Answer {
     Stored(u32),
     Unwanted,
     Lost,
+    SendsNext(u32),
+    Nobody,
 }
 
 pub fn mode_answer(reply: ModeReply) -> Answer
@@ -41,5 +44,15 @@ pub fn arrival_answer(reply: ArrivalReply) -> Answer
         ArrivalReply::Unwanted => Answer::Unwanted,
         ArrivalReply::Lost => Answer::Lost,
         ArrivalReply::Rejected(_) => Answer::Nothing,
+    }
+}
+
+pub fn next_answer(reply: NextReply) -> Answer
+    ensures { λ r. ⌜ answer-of r ≡ replies.next-answer reply ⌝ }
+{
+    match reply {
+        NextReply::Next(h) => Answer::SendsNext(h),
+        NextReply::Nobody => Answer::Nobody,
+        NextReply::Rejected(_) => Answer::Nothing,
     }
 }

@@ -13,6 +13,7 @@ ghost use Rattle.can_calls.specs.Request.{handle, frame, outcome, kind, 
 use crate::answer::Answer;
 use crate::answer::arrival_answer;
 use crate::answer::mode_answer;
+use crate::answer::next_answer;
 use crate::answer::write_answer;
 use crate::request::Function;
 use crate::request::Request;
@@ -116,6 +117,22 @@ fn arrived(state: State, ram: &mut [u8], sheet: &mut [u32], data: &[u8], request
     }
 }
 
+// Who sends next, which changes nothing.
+fn next(state: State, ram: &[u8], controller: u32) -> Played
+    ensures { λ r. ⌜ Performed (rules.next-to-send chip can-format (view state) (now (ram .entry)) controller)
+        (verdict-reason (r .verdict)) (answer-of (r .answer)) (view (r .state)) (r .notifications) (now (ram .entry)) [] [] ⌝ }
+{
+    let reply = can::next_to_send(state, ram, controller);
+    let verdict = can::next_verdict(reply);
+    let answer = next_answer(reply);
+    Played {
+        state: state,
+        verdict: verdict,
+        answer: answer,
+        notifications: 0,
+    }
+}
+
 // The rules.
 fn service(state: State, ram: &mut [u8], sheet: &mut [u32], data: &[u8], request: Request) -> Played
     requires { ⌜ kind (request .function) ≡ SERVICE ⌝ }
@@ -185,6 +202,7 @@ pub fn perform(
         Function::PollWrite | Function::PollRead | Function::PollMode | Function::PollBusOff => {
             poll(state, ram, sheet, data, request)
         }
+        Function::Next => next(state, ram, request.controller),
         _ => service(state, ram, sheet, data, request),
     }
 }

@@ -16,6 +16,7 @@ pub enum Function {
     Sent,
     BusOff,
     Arrived,
+    Next,
 }
 
 // What the call names: its controller or its object, the handle of a frame or the mode asked for, and the identifier. What a function

@@ -10,6 +10,6 @@ view-setup s =
     record {
       controller-count = s .«controller_count»;
       object-count = s .«object_count»;
-      owners = owners-in (s .owners) (s .receivings);
+      owners = owners-in (s .owners) (s .receivings) (s .pools);
       settings = settings-in (s .payloads) (s .paddings) (s .codes) (s .masks);
     }

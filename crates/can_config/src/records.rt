@@ -11,23 +11,30 @@ use crate::setup::Setup;
 use can_chip::OBJECTS;
 
 // Reads and judges one record after the other; the places after the last one are at rest.
-pub fn read_records(bytes: &[u8], controller_count: usize, object_count: usize) -> Reading
+pub fn read_records(
+    bytes: &[u8],
+    version: u32,
+    controller_count: usize,
+    object_count: usize,
+) -> Reading
     requires { ⌜ («object_count» ≤ rules.chip .objects) × (header-size + can-format .record-size * «object_count» ≤ length (now bytes)) ⌝ }
-    ensures { λ r. ⌜ Records-read (now (bytes .entry)) «controller_count» «object_count» r ⌝ }
+    ensures { λ r. ⌜ Records-read (now (bytes .entry)) version «controller_count» «object_count» r ⌝ }
 {
     let mut owners = [0; OBJECTS];
     let mut receivings = [false; OBJECTS];
+    let mut pools = [0; OBJECTS];
     let mut payloads = [0; OBJECTS];
     let mut paddings = [0; OBJECTS];
     let mut codes = [0; OBJECTS];
     let mut masks = [0; OBJECTS];
     let mut ok = true;
     for h in 0..object_count {
-        let record = read_record(bytes, controller_count, h);
+        let record = read_record(bytes, version, controller_count, h);
         let owner = record.owner;
         let settings = record.settings;
         owners[h] = owner.controller;
         receivings[h] = owner.receiving;
+        pools[h] = owner.pool;
         payloads[h] = settings.payload;
         paddings[h] = settings.padding;
         codes[h] = settings.code;
@@ -39,6 +46,7 @@ pub fn read_records(bytes: &[u8], controller_count: usize, object_count: usize) 
         object_count: object_count,
         owners: owners,
         receivings: receivings,
+        pools: pools,
         payloads: payloads,
         paddings: paddings,
         codes: codes,
@@ -46,6 +54,7 @@ pub fn read_records(bytes: &[u8], controller_count: usize, object_count: usize) 
     };
     Reading {
         accepted: ok,
+        version: version,
         setup: setup,
     }
 }

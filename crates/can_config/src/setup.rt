@@ -12,9 +12,10 @@ use can_chip::OBJECTS;
 pub struct Setup {
     pub controller_count: usize,
     pub object_count: usize,
-    // Its controller, and whether it receives;
+    // Its controller, whether it receives, and its pool;
     pub owners: [u8; OBJECTS],
     pub receivings: [bool; OBJECTS],
+    pub pools: [u8; OBJECTS],
     // what is configured of its frames.
     pub payloads: [u8; OBJECTS],
     pub paddings: [u8; OBJECTS],
@@ -22,21 +23,23 @@ pub struct Setup {
     pub masks: [u32; OBJECTS],
 }
 
-// Whether the bytes are accepted, and what they say if so.
+// Whether the bytes are accepted, and the version and the configuration that they say if so.
 pub struct Reading {
     pub accepted: bool,
+    pub version: u32,
     pub setup: Setup,
 }
 
 // Bytes that Init does not accept leave nothing in use.
 pub fn not_accepted() -> Reading
-    ensures { λ r. ⌜ (r .accepted ≡ false) × (view-setup (r .setup) ≡ no-configuration rules.chip can-format) ⌝ }
+    ensures { λ r. ⌜ (r .accepted ≡ false) × (r .version ≡ 0) × (view-setup (r .setup) ≡ no-configuration rules.chip can-format) ⌝ }
 {
     let setup = Setup {
         controller_count: 0,
         object_count: 0,
         owners: [0; OBJECTS],
         receivings: [false; OBJECTS],
+        pools: [0; OBJECTS],
         payloads: [0; OBJECTS],
         paddings: [0; OBJECTS],
         codes: [0; OBJECTS],
@@ -44,6 +47,7 @@ pub fn not_accepted() -> Reading
     };
     Reading {
         accepted: false,
+        version: 0,
         setup: setup,
     }
 }

@@ -1,17 +1,20 @@
--- Laws of the first rule that is broken, and of the first record that breaks one.
+-- Laws of the first rule that is broken, and of the first object that breaks one.
 use Prim.Native.Nat.{ℕ, zero, suc, _+_, _<_}
 use native.Mathlib.Numerals.{add-one}
 use native.Mathlib.Omega.{arith}
 use mathlib.Core.Path.{_≡_, refl, sym, ap₂, _∙_}
 use mathlib.Core.Bool.{Bool, true, false, not, cond, _&&_}
 use mathlib.Core.List.{List, [], _∷_}
-use mathlib.Core.Logic.{⊎-elim}
+use mathlib.Core.Logic.{_⊎_, inl, inr, ⊎-elim}
 use Rattle.rules.specs.Repeat.{all-below}
-use Rattle.laws.proofs.Tests.{left, right, not-true}
+use Rattle.rules.specs.Core.{owner-at}
+use Rattle.rules.specs.Configuration.{Configuration}
+use Rattle.rules.specs.Can.{can-format}
+use Rattle.laws.proofs.Tests.{left, right, not-true, decide}
 use Rattle.laws.proofs.Repeat.{last-or-below}
 use Rattle.can_faults.specs.declared.fault.Rule.{Rule}
 use Rattle.can_faults.specs.declared.fault.Fault.{Fault}
-use Rattle.can_faults.specs.Fault.{is-accepted, Test, first-broken, no-fault, _then_, fault-at, first-fault}
+use Rattle.can_faults.specs.Fault.{is-accepted, Test, first-broken, pool-rules, pool-rule, no-fault, _then_, fault-at, first-fault, compared}
 
 -- every rule of the list is kept
 unfoldable pub all-kept : List Test → Bool
@@ -44,32 +47,53 @@ then-accepted a b = go (is-accepted (a .rule)) refl
     go true e = refl
     go false e = e
 
-fault-at-accepted : (h : ℕ) (r : Rule) → is-accepted (fault-at h r .rule) ≡ is-accepted r
-fault-at-accepted h r = go (is-accepted r) refl
+fault-at-accepted : (h lowest : ℕ) (r : Rule) → is-accepted (fault-at h lowest r .rule) ≡ is-accepted r
+fault-at-accepted h lowest r = go (is-accepted r) refl
   where
-    go : (t : Bool) → is-accepted r ≡ t → is-accepted (cond t no-fault (record { rule = r; object = h }) .rule) ≡ t
+    go : (t : Bool) → is-accepted r ≡ t → is-accepted (cond t no-fault (record { rule = r; object = h; lowest = lowest }) .rule) ≡ t
     go true e = refl
     go false e = e
 
--- no record has a fault exactly where none breaks a rule
-pub first-fault-accepted : (n : ℕ) (rule : ℕ → Rule) → is-accepted (first-fault n rule .rule) ≡ all-below n (λ h. is-accepted (rule h))
-unfolding first-fault all-below
-first-fault-accepted zero rule = refl
-first-fault-accepted (suc n) rule =
-    then-accepted (first-fault n rule) (fault-at n (rule n)) ∙ ap₂ _&&_ (first-fault-accepted n rule) (fault-at-accepted n (rule n))
+module _ (rule : ℕ → Rule) (lowest : ℕ → ℕ) where
+  -- no object has a fault exactly where none breaks a rule
+  pub first-fault-accepted : (n : ℕ) → is-accepted (first-fault n rule lowest .rule) ≡ all-below n (λ h. is-accepted (rule h))
+  unfolding first-fault all-below
+  first-fault-accepted zero = refl
+  first-fault-accepted (suc n) =
+      then-accepted (first-fault n rule lowest) (fault-at n (lowest n) (rule n)) ∙ ap₂ _&&_ (first-fault-accepted n) (fault-at-accepted n (lowest n) (rule n))
 
-module _ (rule : ℕ → Rule) (h : ℕ) (none : first-fault h rule ≡ no-fault) where
-  behind : (n : ℕ) → h < n → is-accepted (rule h) ≡ false → first-fault n rule ≡ record { rule = rule h; object = h }
+  module _ (h : ℕ) (none : first-fault h rule lowest ≡ no-fault) {r : Rule} (is : r ≡ rule h) where
+    behind : (n : ℕ) → h < n → is-accepted (rule h) ≡ false → first-fault n rule lowest ≡ record { rule = rule h; object = h; lowest = lowest h }
+    unfolding first-fault
+    behind zero l broken = absurd (omega arith)
+    behind (suc n) l broken =
+        ⊎-elim (λ (e : h ≡ n). rw (← e, none, broken)) (λ (k : h < n). rw (behind n k broken, broken)) (last-or-below n h l)
+
+    -- object h breaks no rule, so that there is none up to it
+    pub none-more : is-accepted r ≡ true → first-fault (h + 1) rule lowest ≡ no-fault
+    unfolding first-fault
+    none-more kept = rw (add-one, none, rw is at kept)
+
+    -- object h breaks one, and the objects behind it do not matter
+    pub found : (n : ℕ) {low : ℕ} → h < n → is-accepted r ≡ false → low ≡ lowest h → record { rule = r; object = h; lowest = low } ≡ first-fault n rule lowest
+    found n l broken e = rw (is, e) (sym (behind n l (rw is at broken)))
+
+-- whom an object that sends is compared with is all that matters
+module _ (c : Configuration can-format) (a b : ℕ → ℕ) where
+  abbrev sends : ℕ → Type 0
+  sends h = owner-at (c .owners) h .receiving ≡ false
+
+  same-fault : (h : ℕ) → (owner-at (c .owners) h .receiving ≡ true) ⊎ sends h → (sends h → a h ≡ b h)
+      → fault-at h (a h) (pool-rule c h (a h)) ≡ fault-at h (b h) (pool-rule c h (b h))
+  unfolding first-broken pool-rules
+  same-fault h (inl receives) same = rw receives
+  same-fault h (inr is) same = rw (same is)
+
+  same-faults : (n : ℕ) → ((h : ℕ) → h < n → sends h → a h ≡ b h) → first-fault n (λ h. pool-rule c h (a h)) a ≡ first-fault n (λ h. pool-rule c h (b h)) b
   unfolding first-fault
-  behind zero l broken = absurd (omega arith)
-  behind (suc n) l broken =
-      ⊎-elim (λ (e : h ≡ n). rw (← e, none, broken)) (λ (k : h < n). rw (behind n k broken, broken)) (last-or-below n h l)
+  same-faults zero same = refl
+  same-faults (suc n) same =
+      ap₂ _then_ (same-faults n (λ h l. same h (omega arith))) (same-fault n (decide (owner-at (c .owners) n .receiving)) (same n (omega arith)))
 
-  -- record h breaks no rule, so that there is none up to it
-  pub none-more : {r : Rule} → r ≡ rule h → is-accepted r ≡ true → first-fault (h + 1) rule ≡ no-fault
-  unfolding first-fault
-  none-more e kept = rw (add-one, none, rw e at kept)
-
-  -- record h breaks one, and the records behind it do not matter
-  pub found : (n : ℕ) {r : Rule} → h < n → r ≡ rule h → is-accepted r ≡ false → record { rule = r; object = h } ≡ first-fault n rule
-  found n l e broken = rw e (sym (behind n l (rw e at broken)))
+  pub compared-same : ((h : ℕ) → h < c .object-count → sends h → a h ≡ b h) → compared c a ≡ compared c b
+  compared-same same = same-faults (c .object-count) same

@@ -17,6 +17,7 @@ pub enum Rule {
     // The record of a sending object.
     SendingCode,
     SendingMask,
+    Pool,
     // The record of a receiving object.
     ReceivingPadding,
     CodeBits,
@@ -24,10 +25,16 @@ pub enum Rule {
     StandardCode,
     StandardMask,
     StrayBit,
+    // A sending object beside the lowest one of its pool.
+    PoolController,
+    PoolPayload,
+    PoolPadding,
 }
 
-// The first rule that is broken, and by which object's record; 0 where it is a rule of the header or of the whole.
+// The first rule that is broken, and by which object's record; 0 where it is a rule of the header or of the whole. Where an object differs
+// from the lowest one of its pool, which that is; else 0.
 pub struct Fault {
     pub rule: Rule,
     pub object: usize,
+    pub lowest: usize,
 }

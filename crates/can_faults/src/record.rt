@@ -1,6 +1,6 @@
 // The rules of one object's record.
 ghost use mathlib.Core.Path.{_≡_};
-ghost use Prim.Native.Nat.{_+_, _*_, _≤_};
+ghost use Prim.Native.Nat.{_+_, _*_, _≤_, _<_};
 ghost use lib.ListN.{length};
 ghost use Rattle.rules.specs.Configuration.{header-size, object-record};
 ghost use Rattle.rules.specs.Can.{can-format};
@@ -9,6 +9,7 @@ ghost use Rattle.core_places.specs.View.{view-owner};
 ghost use Rattle.can_state.specs.View.{view-settings};
 ghost use Rattle.can_faults.specs.Fault.{first-broken, sending-rules, receiving-rules, rules-of, record-rule};
 use crate::fault::Rule;
+use can_chip::OBJECTS;
 use can_config::header::HEADER_SIZE;
 use can_config::record::RECORD_SIZE;
 use can_config::record::read_record;
@@ -24,14 +25,17 @@ use core_places::owner::Owner;
 use core_places::owner::owner_valid;
 
 // The first rule of a sending object that is broken.
-fn sending_rule(s: Settings) -> Rule
-    ensures { λ r. ⌜ r ≡ first-broken (sending-rules (view-settings s)) ⌝ }
+fn sending_rule(pool: u8, s: Settings) -> Rule
+    ensures { λ r. ⌜ r ≡ first-broken (sending-rules pool (view-settings s)) ⌝ }
 {
     if s.code != 0 {
         return Rule::SendingCode;
     }
     if s.mask != 0 {
         return Rule::SendingMask;
+    }
+    if OBJECTS <= pool as usize {
+        return Rule::Pool;
     }
     Rule::Accepted
 }
@@ -79,16 +83,16 @@ fn rule_of(controller_count: usize, owner: Owner, kind: u8, settings: Settings) 
     if owner.receiving {
         receiving_rule(settings)
     } else {
-        sending_rule(settings)
+        sending_rule(owner.pool, settings)
     }
 }
 
 // The first rule that is broken by the record of object h, which the bytes hold whole.
-pub fn record_rule(bytes: &[u8], controller_count: usize, h: usize) -> Rule
-    requires { ⌜ header-size + can-format .record-size * h + can-format .record-size ≤ length (now bytes) ⌝ }
-    ensures { λ r. ⌜ r ≡ record-rule «controller_count» (object-record rules.chip can-format (now (bytes .entry)) h) ⌝ }
+pub fn record_rule(bytes: &[u8], version: u32, controller_count: usize, h: usize) -> Rule
+    requires { ⌜ (header-size + can-format .record-size * h + can-format .record-size ≤ length (now bytes)) × (h < 256) ⌝ }
+    ensures { λ r. ⌜ r ≡ record-rule version «controller_count» h (object-record rules.chip can-format (now (bytes .entry)) h) ⌝ }
 {
-    let record = read_record(bytes, controller_count, h);
+    let record = read_record(bytes, version, controller_count, h);
     let owner = record.owner;
     let settings = record.settings;
     let kind = bytes[HEADER_SIZE + RECORD_SIZE * h + 1];

@@ -3,7 +3,7 @@ use Prim.Native.Nat.{ℕ, _≤_}
 use mathlib.Core.Path.{_≡_, refl}
 use mathlib.Core.Bool.{Bool, true, false, cond, not, _&&_}
 use native.Mathlib.Omega.{arith}
-use borrow.Author.Tests.{leb-true, not-false}
+use borrow.Author.Tests.{eqb-true, leb-true, not-false}
 use lib.Dec.{leb, eqb}
 use lib.ListN.{length}
 use Rattle.rules.specs.Format.{Lawful}
@@ -38,4 +38,5 @@ can-lawful =
       written-fills = λ s handle f h. object-fills s handle f (written-short s f h);
       arrived-fills = λ s f h. object-fills s 0 f (arrived-short f h);
       handle-kept = handle-back;
+      carried-alike = λ s t f alike passed. rw (eqb-true (s .payload) (t .payload) (left (eqb (s .payload) (t .payload)) (eqb (s .padding) (t .padding)) alike)) passed;
     }

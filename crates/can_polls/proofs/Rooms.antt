@@ -7,7 +7,7 @@ use lib.ListN.{length}
 use Rattle.rules.specs.Core.{Owner, Core}
 use Rattle.rules.specs.Chip.{chip}
 use Rattle.core_places.specs.Arrays.{controllers-in, mailboxes-in}
-use Rattle.core_places.proofs.Laws.{owner-seen}
+use Rattle.core_places.proofs.Laws.{owned-in}
 use Rattle.core_sweeps.specs.Swept.{Lent}
 use Rattle.core_polls.specs.Swept.{Holds, Placed, ObjectRoom, ControllerRoom}
 use Rattle.can_state.specs.declared.state.State.{State}
@@ -39,7 +39,7 @@ module _ {s : State} (sized : Sized s) where
       record {
         controllers-used = refl;
         objects-used = refl;
-        owned = λ h. ap (λ (o : Owner). o .controller) (owner-seen (s .owners) (s .receivings) h (omega arith));
+        owned = owned-in (s .owners) (s .receivings) (s .pools) (record { second = omega arith; third = omega arith }) .controller-is;
         controllers-are = refl;
         mailboxes-are = refl;
       }

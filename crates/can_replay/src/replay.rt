@@ -63,6 +63,7 @@ fn event(
     marks: &mut [bool; CONTROLLERS],
     owners: &mut [u8; OBJECTS],
     receivings: &mut [bool; OBJECTS],
+    pools: &mut [u8; OBJECTS],
     pendings: &mut [bool; OBJECTS],
     dones: &mut [bool; OBJECTS],
     fulls: &mut [bool; OBJECTS],
@@ -75,7 +76,7 @@ fn event(
 )
     requires { ⌜ i < event-count (events-in (now kinds) (now places) (now values) (now handles) (now starts) (now ends) (now «data»)) ⌝ }
     requires { ⌜ Stands
-        (gathered (now initialised) (now «controller_count») (now «object_count») (now modes) (now requests) (now marks) (now owners) (now receivings) (now pendings) (now dones) (now fulls) (now payloads) (now paddings)
+        (gathered (now initialised) (now «controller_count») (now «object_count») (now modes) (now requests) (now marks) (now owners) (now receivings) (now pools) (now pendings) (now dones) (now fulls) (now payloads) (now paddings)
         (now codes) (now masks)) ⌝ }
     ensures { λ _. ⌜ Stepped
         (made-at
@@ -84,10 +85,10 @@ fn event(
         (whole
         (view
         (gathered (now (initialised .entry)) (now («controller_count» .entry)) (now («object_count» .entry)) (now (modes .entry)) (now (requests .entry)) (now (marks .entry)) (now (owners .entry)) (now (receivings .entry))
-        (now (pendings .entry)) (now (dones .entry)) (now (fulls .entry)) (now (payloads .entry)) (now (paddings .entry)) (now (codes .entry)) (now (masks .entry))))
+        (now (pools .entry)) (now (pendings .entry)) (now (dones .entry)) (now (fulls .entry)) (now (payloads .entry)) (now (paddings .entry)) (now (codes .entry)) (now (masks .entry))))
         (now (ram .entry)) (now (sheet .entry))))
         (gathered (now (initialised .exit)) (now («controller_count» .exit)) (now («object_count» .exit)) (now (modes .exit)) (now (requests .exit)) (now (marks .exit)) (now (owners .exit)) (now (receivings .exit))
-        (now (pendings .exit)) (now (dones .exit)) (now (fulls .exit)) (now (payloads .exit)) (now (paddings .exit)) (now (codes .exit)) (now (masks .exit)))
+        (now (pools .exit)) (now (pendings .exit)) (now (dones .exit)) (now (fulls .exit)) (now (payloads .exit)) (now (paddings .exit)) (now (codes .exit)) (now (masks .exit)))
         (now (ram .exit)) (now (sheet .exit)) ⌝ }
 {
     let start = starts[i] as usize;
@@ -107,6 +108,7 @@ fn event(
         marks,
         owners,
         receivings,
+        pools,
         pendings,
         dones,
         fulls,
@@ -136,6 +138,7 @@ fn play(
     marks: &mut [bool; CONTROLLERS],
     owners: &mut [u8; OBJECTS],
     receivings: &mut [bool; OBJECTS],
+    pools: &mut [u8; OBJECTS],
     pendings: &mut [bool; OBJECTS],
     dones: &mut [bool; OBJECTS],
     fulls: &mut [bool; OBJECTS],
@@ -147,12 +150,12 @@ fn play(
     sheet: &mut [u32],
 )
     requires { ⌜ Stands
-        (gathered (now initialised) (now «controller_count») (now «object_count») (now modes) (now requests) (now marks) (now owners) (now receivings) (now pendings) (now dones) (now fulls) (now payloads) (now paddings)
+        (gathered (now initialised) (now «controller_count») (now «object_count») (now modes) (now requests) (now marks) (now owners) (now receivings) (now pools) (now pendings) (now dones) (now fulls) (now payloads) (now paddings)
         (now codes) (now masks)) ⌝ }
     ensures { λ _. ⌜ whole
         (view
         (gathered (now (initialised .exit)) (now («controller_count» .exit)) (now («object_count» .exit)) (now (modes .exit)) (now (requests .exit)) (now (marks .exit)) (now (owners .exit)) (now (receivings .exit))
-        (now (pendings .exit)) (now (dones .exit)) (now (fulls .exit)) (now (payloads .exit)) (now (paddings .exit)) (now (codes .exit)) (now (masks .exit))))
+        (now (pools .exit)) (now (pendings .exit)) (now (dones .exit)) (now (fulls .exit)) (now (payloads .exit)) (now (paddings .exit)) (now (codes .exit)) (now (masks .exit))))
         (now (ram .exit)) (now (sheet .exit))
         ≡ all-replayed
         (events-in (now (kinds .entry)) (now (places .entry)) (now (values .entry)) (now (handles .entry)) (now (starts .entry)) (now (ends .entry))
@@ -160,7 +163,7 @@ fn play(
         (whole
         (view
         (gathered (now (initialised .entry)) (now («controller_count» .entry)) (now («object_count» .entry)) (now (modes .entry)) (now (requests .entry)) (now (marks .entry)) (now (owners .entry)) (now (receivings .entry))
-        (now (pendings .entry)) (now (dones .entry)) (now (fulls .entry)) (now (payloads .entry)) (now (paddings .entry)) (now (codes .entry)) (now (masks .entry))))
+        (now (pools .entry)) (now (pendings .entry)) (now (dones .entry)) (now (fulls .entry)) (now (payloads .entry)) (now (paddings .entry)) (now (codes .entry)) (now (masks .entry))))
         (now (ram .entry)) (now (sheet .entry))) ⌝ }
 {
     let count = event_count(kinds, places, values, handles, starts, ends);
@@ -182,6 +185,7 @@ fn play(
             marks,
             owners,
             receivings,
+            pools,
             pendings,
             dones,
             fulls,
@@ -225,6 +229,7 @@ pub fn replay(
     let mut marks = state.marks;
     let mut owners = state.owners;
     let mut receivings = state.receivings;
+    let mut pools = state.pools;
     let mut pendings = state.pendings;
     let mut dones = state.dones;
     let mut fulls = state.fulls;
@@ -248,6 +253,7 @@ pub fn replay(
         &mut marks,
         &mut owners,
         &mut receivings,
+        &mut pools,
         &mut pendings,
         &mut dones,
         &mut fulls,
@@ -267,6 +273,7 @@ pub fn replay(
         marks: marks,
         owners: owners,
         receivings: receivings,
+        pools: pools,
         pendings: pendings,
         dones: dones,
         fulls: fulls,

@@ -37,6 +37,7 @@ pub fn configured_state(setup: Setup) -> State
     let modes = stopped_modes(setup.controller_count);
     let owners = setup.owners;
     let receivings = setup.receivings;
+    let pools = setup.pools;
     let payloads = setup.payloads;
     let paddings = setup.paddings;
     let codes = setup.codes;
@@ -50,6 +51,7 @@ pub fn configured_state(setup: Setup) -> State
         marks: [false; CONTROLLERS],
         owners: owners,
         receivings: receivings,
+        pools: pools,
         pendings: [false; OBJECTS],
         dones: [false; OBJECTS],
         fulls: [false; OBJECTS],

@@ -9,14 +9,14 @@ use Rattle.rules.specs.Limits.{sheet-size, ram-size}
 use Rattle.rules.specs.Reason.{_if_, first-reason, reasons-named, INVALID-STATE, SHEET-TOO-SHORT, WRONG-RAM-SIZE}
 use Rattle.rules.specs.Core.{Core}
 use Rattle.rules.specs.State as rules
-use Rattle.rules.specs.Outcome.{Outcome, Answer, lifted, state-check, sheet-check, state-gate, sheet-gate, full-gate}
+use Rattle.rules.specs.Outcome.{Outcome, Answer, lifted, state-check, sheet-check, state-gate, sheet-gate, full-gate, ram-gate}
 use Rattle.rules.specs.Can.{can-format}
 use Rattle.rules.specs.Chip.{chip}
 use Rattle.laws.proofs.Tests.{not-false}
 use Rattle.laws.proofs.Reasons.{check-passed}
 use Rattle.laws.proofs.Validity.{core-facts, state-core}
 use Rattle.laws.proofs.Changes.{controllers-within, objects-within}
-use Rattle.laws.proofs.Acceptance.{gate-passed}
+use Rattle.laws.proofs.Acceptance.{gate-passed, ram-gate-passed}
 use Rattle.core_answers.specs.Performed.{Performed}
 use Rattle.can_state.specs.declared.state.State.{State}
 use Rattle.can_state.specs.View.{view}
@@ -36,6 +36,10 @@ module _ (s : State) {valid : Bool} (test : valid ≡ rules.valid chip can-forma
       → r ≡ full-gate chip can-format (view s) sheet ram
   unfolding full-gate
   full-gate-is sheet ram e = e ∙ rw test
+
+  pub ram-gate-is : (ram : List ℕ) → r ≡ first-reason (INVALID-STATE if not valid ∷ WRONG-RAM-SIZE if not (eqb (length ram) (ram-size chip)) ∷ []) → r ≡ ram-gate chip can-format (view s) ram
+  unfolding ram-gate
+  ram-gate-is ram e = e ∙ rw test
 
 -- a valid state has no more in use than there are places
 pub record Within (s : State) : Type 0 where
@@ -66,6 +70,9 @@ pub passed : (s : State) (sheet : ℕ) (ram : List ℕ) → full-gate chip can-f
 passed s sheet ram e =
     let gate = gate-passed chip can-format (view s) sheet ram e in
     record { places = within s (gate .sound); sheet-holds = gate .sheet-holds; ram-whole = gate .ram-whole }
+
+pub ram-passed : (s : State) (ram : List ℕ) → ram-gate chip can-format (view s) ram ≡ 0 → Within s × (length ram ≡ ram-size chip)
+ram-passed s ram e = let gate = ram-gate-passed chip can-format (view s) ram e in (within s (gate .0), gate .1)
 
 -- a call on the core, with the settings as they were
 pub lifted-performed : (s : rules.State can-format) {o : Outcome Core} {reason : ℕ} {answer : Answer} {core : Core} {count : ℕ} {ram before after : List ℕ}

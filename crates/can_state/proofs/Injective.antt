@@ -22,8 +22,8 @@ module _ (s : State) (sized : Sized s) (i : ℕ) where
   controller : controller-at (view s .core .controllers) i ≡ record { mode = getD (s .modes) i 0; requested-mode = getD (s .requests) i 0; bus-off = getD (s .marks) i false }
   controller = controller-seen (s .modes) (s .requests) (s .marks) i (omega arith)
 
-  owner : owner-at (view s .core .owners) i ≡ record { controller = getD (s .owners) i 0; receiving = getD (s .receivings) i false }
-  owner = owner-seen (s .owners) (s .receivings) i (omega arith)
+  owner : owner-at (view s .core .owners) i ≡ record { controller = getD (s .owners) i 0; receiving = getD (s .receivings) i false; pool = getD (s .pools) i 0 }
+  owner = owner-seen (s .owners) (s .receivings) (s .pools) i (record { second = omega arith; third = omega arith })
 
   mailbox : mailbox-at (view s .core .mailboxes) i
       ≡ record { tx-pending = getD (s .pendings) i false; tx-done = getD (s .dones) i false; rx-full = getD (s .fulls) i false }
@@ -59,6 +59,7 @@ module _ (s t : State) (m : Sized s) (n : Sized t) (e : view s ≡ view t) where
         marks = flags (λ u. u .marks) (λ v p. controller-at (v .core .controllers) p .bus-off) (omega arith) (λ u z p j. controller u z p j .bus-off) i;
         owners = numbers (λ u. u .owners) (λ v p. owner-at (v .core .owners) p .controller) (omega arith) (λ u z p j. owner u z p j .controller) i;
         receivings = flags (λ u. u .receivings) (λ v p. owner-at (v .core .owners) p .receiving) (omega arith) (λ u z p j. owner u z p j .receiving) i;
+        pools = numbers (λ u. u .pools) (λ v p. owner-at (v .core .owners) p .pool) (omega arith) (λ u z p j. owner u z p j .pool) i;
         pendings = flags (λ u. u .pendings) (λ v p. mailbox-at (v .core .mailboxes) p .tx-pending) (omega arith) (λ u z p j. mailbox u z p j .tx-pending) i;
         dones = flags (λ u. u .dones) (λ v p. mailbox-at (v .core .mailboxes) p .tx-done) (omega arith) (λ u z p j. mailbox u z p j .tx-done) i;
         fulls = flags (λ u. u .fulls) (λ v p. mailbox-at (v .core .mailboxes) p .rx-full) (omega arith) (λ u z p j. mailbox u z p j .rx-full) i;

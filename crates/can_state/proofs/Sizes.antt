@@ -10,7 +10,7 @@ use Rattle.can_state.specs.declared.state.State.{State}
 use Rattle.can_state.specs.Sizes.{Sized}
 use Rattle.can_state.proofs.state.State.{the-row}
 
-length-of-map : {A B : Type 0} (f : A → B) (l : List A) (n : ℕ) → length (map f l) ≡ n → length l ≡ n
+pub length-of-map : {A B : Type 0} (f : A → B) (l : List A) (n : ℕ) → length (map f l) ≡ n → length l ≡ n
 length-of-map f l n e = sym (length-map l f) ∙ e
 
 pub sizes : (s : State) (v : List Val) → Is the-row s v → Sized s
@@ -21,6 +21,7 @@ sizes s v known =
       marks = search length-of-map;
       owners = search length-of-map;
       receivings = search length-of-map;
+      pools = search length-of-map;
       pendings = search length-of-map;
       dones = search length-of-map;
       fulls = search length-of-map;

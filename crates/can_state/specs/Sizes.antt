@@ -10,6 +10,7 @@ pub record Sized (s : State) : Type 0 where
   pub marks : length (s .marks) ≡ chip .controllers
   pub owners : length (s .owners) ≡ chip .objects
   pub receivings : length (s .receivings) ≡ chip .objects
+  pub pools : length (s .pools) ≡ chip .objects
   pub pendings : length (s .pendings) ≡ chip .objects
   pub dones : length (s .dones) ≡ chip .objects
   pub fulls : length (s .fulls) ≡ chip .objects

@@ -17,9 +17,10 @@ pub struct State {
     pub modes: [u8; CONTROLLERS],
     pub requests: [u8; CONTROLLERS],
     pub marks: [bool; CONTROLLERS],
-    // Of each object: its controller, and whether it receives;
+    // Of each object: its controller, whether it receives, and its pool;
     pub owners: [u8; OBJECTS],
     pub receivings: [bool; OBJECTS],
+    pub pools: [u8; OBJECTS],
     // whether a written frame waits, was sent, and whether a received frame waits;
     pub pendings: [bool; OBJECTS],
     pub dones: [bool; OBJECTS],
@@ -44,6 +45,7 @@ pub fn initial_state() -> State
         marks: [false; CONTROLLERS],
         owners: [0; OBJECTS],
         receivings: [false; OBJECTS],
+        pools: [0; OBJECTS],
         pendings: [false; OBJECTS],
         dones: [false; OBJECTS],
         fulls: [false; OBJECTS],

@@ -31,6 +31,7 @@ with-places s modes requests marks pendings dones fulls =
       marks = marks;
       owners = s .owners;
       receivings = s .receivings;
+      pools = s .pools;
       pendings = pendings;
       dones = dones;
       fulls = fulls;
@@ -60,6 +61,7 @@ module _ (s : State) (sized : Sized s) where
         marks = ks .third;
         owners = sized .owners;
         receivings = sized .receivings;
+        pools = sized .pools;
         pendings = ms .first;
         dones = ms .second;
         fulls = ms .third;

@@ -4,8 +4,8 @@ use mathlib.Core.Bool.{Bool}
 use mathlib.Core.List.{List}
 use Rattle.can_state.specs.declared.state.State.{State}
 
-abbrev pub gathered : Bool → ℕ → ℕ → List ℕ → List ℕ → List Bool → List ℕ → List Bool → List Bool → List Bool → List Bool → List ℕ → List ℕ → List ℕ → List ℕ → State
-gathered initialised controller-count object-count modes requests marks owners receivings pendings dones fulls payloads paddings codes masks =
+abbrev pub gathered : Bool → ℕ → ℕ → List ℕ → List ℕ → List Bool → List ℕ → List Bool → List ℕ → List Bool → List Bool → List Bool → List ℕ → List ℕ → List ℕ → List ℕ → State
+gathered initialised controller-count object-count modes requests marks owners receivings pools pendings dones fulls payloads paddings codes masks =
     record {
       initialised = initialised;
       «controller_count» = controller-count;
@@ -15,6 +15,7 @@ gathered initialised controller-count object-count modes requests marks owners r
       marks = marks;
       owners = owners;
       receivings = receivings;
+      pools = pools;
       pendings = pendings;
       dones = dones;
       fulls = fulls;

@@ -9,7 +9,7 @@ ghost use Rattle.rules.specs.State as rules;
 ghost use Rattle.rules.specs.Calls as calls;
 ghost use Rattle.rules.specs.Can.{can-format};
 ghost use Rattle.rules.specs.Chip.{chip};
-ghost use Rattle.core_places.specs.Arrays.{controllers-in, owners-in, mailboxes-in};
+ghost use Rattle.core_places.specs.Arrays.{controllers-in, mailboxes-in};
 ghost use Rattle.core_places.specs.Held.{Controlled, Held};
 ghost use Rattle.history.specs.Replay.{whole, whole-of};
 ghost use Rattle.can_step.specs.Places.{Places};
@@ -34,7 +34,7 @@ pub fn sent(
     requires { ⌜ («object_count» ≤ chip .objects) × Places (chip .controllers) (now modes) (now requests) (now marks)
         × (length (now owners) ≡ chip .objects) × (length (now receivings) ≡ chip .objects) × Places (chip .objects) (now pendings) (now dones) (now fulls) ⌝ }
     ensures left { λ _. ⌜ ((s : rules.State can-format) (ram sheet : List ℕ) → rules.valid chip can-format s ≡ true
-        → Held (s .core) initialised «object_count» (owners-in (now (owners .entry)) (now (receivings .entry)))
+        → Held (s .core) initialised «object_count» (now (owners .entry)) (now (receivings .entry))
         (controllers-in (now (modes .entry)) (now (requests .entry)) (now (marks .entry)))
         (mailboxes-in (now (pendings .entry)) (now (dones .entry)) (now (fulls .entry)))
         → whole (rules.with-core s (with-mailboxes (s .core) (mailboxes-in (now (pendings .exit)) (now (dones .exit)) (now (fulls .exit))))) ram sheet

@@ -8,8 +8,9 @@ ghost use Rattle.rules.specs.State as rules;
 ghost use Rattle.rules.specs.Calls as calls;
 ghost use Rattle.rules.specs.Can.{can-format};
 ghost use Rattle.rules.specs.Chip.{chip};
-ghost use Rattle.core_places.specs.Arrays.{controllers-in, owners-in, mailboxes-in};
+ghost use Rattle.core_places.specs.Arrays.{controllers-in, mailboxes-in};
 ghost use Rattle.core_places.specs.Held.{Controlled, Held};
+ghost use Rattle.core_places.specs.Pools.{Pooled};
 ghost use Rattle.can_state.specs.View.{settings-in};
 ghost use Rattle.history.specs.Replay.{whole, whole-of};
 ghost use Rattle.can_step.specs.Places.{Places};
@@ -31,6 +32,7 @@ pub fn write(
     marks: &[bool; CONTROLLERS],
     owners: &[u8; OBJECTS],
     receivings: &[bool; OBJECTS],
+    pools: &[u8; OBJECTS],
     pendings: &mut [bool; OBJECTS],
     dones: &mut [bool; OBJECTS],
     fulls: &mut [bool; OBJECTS],
@@ -46,12 +48,13 @@ pub fn write(
     sdu: &[u8],
 )
     requires { ⌜ («object_count» ≤ chip .objects) × Places (chip .controllers) (now modes) (now requests) (now marks)
-        × (length (now owners) ≡ chip .objects) × (length (now receivings) ≡ chip .objects) × Places (chip .objects) (now pendings) (now dones) (now fulls) ⌝ }
+        × (length (now owners) ≡ chip .objects) × (length (now receivings) ≡ chip .objects) × (length (now pools) ≡ chip .objects) × Places (chip .objects) (now pendings) (now dones) (now fulls) ⌝ }
     requires { ⌜ Places (chip .objects) (now payloads) (now paddings) (now codes) × (length (now masks) ≡ chip .objects) ⌝ }
     ensures left { λ _. ⌜ ((s : rules.State can-format) → rules.valid chip can-format s ≡ true
-        → Held (s .core) initialised «object_count» (owners-in (now (owners .entry)) (now (receivings .entry)))
+        → Held (s .core) initialised «object_count» (now (owners .entry)) (now (receivings .entry))
         (controllers-in (now (modes .entry)) (now (requests .entry)) (now (marks .entry)))
         (mailboxes-in (now (pendings .entry)) (now (dones .entry)) (now (fulls .entry)))
+        → Pooled (s .core .owners) (now (pools .entry))
         → s .settings ≡ settings-in (now (payloads .entry)) (now (paddings .entry)) (now (codes .entry)) (now (masks .entry))
         → whole (rules.with-core s (with-mailboxes (s .core) (mailboxes-in (now (pendings .exit)) (now (dones .exit)) (now (fulls .exit))))) (now (ram .exit)) (now (sheet .exit))
         ≡ whole-of
@@ -70,10 +73,12 @@ pub fn write(
         marks,
         owners,
         receivings,
+        pools,
         pendings,
         dones,
         fulls,
         settings,
+        paddings,
         ram,
         sheet,
         object,
@@ -111,7 +116,7 @@ pub fn arrive(
     requires { ⌜ Places (chip .objects) (now payloads) (now paddings) (now codes) × (length (now masks) ≡ chip .objects) ⌝ }
     ensures left { λ _. ⌜ ((s : rules.State can-format) → rules.valid chip can-format s ≡ true
         → Controlled (s .core) initialised «controller_count» (controllers-in (now (modes .entry)) (now (requests .entry)) (now (marks .entry)))
-        → Held (s .core) initialised «object_count» (owners-in (now (owners .entry)) (now (receivings .entry)))
+        → Held (s .core) initialised «object_count» (now (owners .entry)) (now (receivings .entry))
         (controllers-in (now (modes .entry)) (now (requests .entry)) (now (marks .entry)))
         (mailboxes-in (now (pendings .entry)) (now (dones .entry)) (now (fulls .entry)))
         → s .settings ≡ settings-in (now (payloads .entry)) (now (paddings .entry)) (now (codes .entry)) (now (masks .entry))

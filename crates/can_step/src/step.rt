@@ -37,6 +37,7 @@ pub fn step(
     marks: &mut [bool; CONTROLLERS],
     owners: &mut [u8; OBJECTS],
     receivings: &mut [bool; OBJECTS],
+    pools: &mut [u8; OBJECTS],
     pendings: &mut [bool; OBJECTS],
     dones: &mut [bool; OBJECTS],
     fulls: &mut [bool; OBJECTS],
@@ -48,18 +49,18 @@ pub fn step(
     sheet: &mut [u32],
 )
     requires { ⌜ Stands
-        (gathered (now initialised) (now «controller_count») (now «object_count») (now modes) (now requests) (now marks) (now owners) (now receivings) (now pendings) (now dones) (now fulls) (now payloads) (now paddings)
+        (gathered (now initialised) (now «controller_count») (now «object_count») (now modes) (now requests) (now marks) (now owners) (now receivings) (now pools) (now pendings) (now dones) (now fulls) (now payloads) (now paddings)
         (now codes) (now masks)) ⌝ }
     ensures { λ _. ⌜ Stepped
         (whole-of
         (performed chip can-format (call-of (now (sheet .entry)) place value handle (now (bytes .entry)) kind)
         (view
         (gathered (now (initialised .entry)) (now («controller_count» .entry)) (now («object_count» .entry)) (now (modes .entry)) (now (requests .entry)) (now (marks .entry)) (now (owners .entry)) (now (receivings .entry))
-        (now (pendings .entry)) (now (dones .entry)) (now (fulls .entry)) (now (payloads .entry)) (now (paddings .entry)) (now (codes .entry)) (now (masks .entry))))
+        (now (pools .entry)) (now (pendings .entry)) (now (dones .entry)) (now (fulls .entry)) (now (payloads .entry)) (now (paddings .entry)) (now (codes .entry)) (now (masks .entry))))
         (now (ram .entry)))
         (now (sheet .entry)))
         (gathered (now (initialised .exit)) (now («controller_count» .exit)) (now («object_count» .exit)) (now (modes .exit)) (now (requests .exit)) (now (marks .exit)) (now (owners .exit)) (now (receivings .exit))
-        (now (pendings .exit)) (now (dones .exit)) (now (fulls .exit)) (now (payloads .exit)) (now (paddings .exit)) (now (codes .exit)) (now (masks .exit)))
+        (now (pools .exit)) (now (pendings .exit)) (now (dones .exit)) (now (fulls .exit)) (now (payloads .exit)) (now (paddings .exit)) (now (codes .exit)) (now (masks .exit)))
         (now (ram .exit)) (now (sheet .exit)) ⌝ }
 {
     match kind {
@@ -73,6 +74,7 @@ pub fn step(
                 marks,
                 owners,
                 receivings,
+                pools,
                 pendings,
                 dones,
                 fulls,
@@ -95,6 +97,7 @@ pub fn step(
                 marks,
                 owners,
                 receivings,
+                pools,
                 pendings,
                 dones,
                 fulls,
@@ -138,6 +141,7 @@ pub fn step(
                 marks,
                 owners,
                 receivings,
+                pools,
                 pendings,
                 dones,
                 fulls,

@@ -22,6 +22,7 @@ fn gather(
     marks: &[bool; CONTROLLERS],
     owners: &[u8; OBJECTS],
     receivings: &[bool; OBJECTS],
+    pools: &[u8; OBJECTS],
     pendings: &[bool; OBJECTS],
     dones: &[bool; OBJECTS],
     fulls: &[bool; OBJECTS],
@@ -32,13 +33,14 @@ fn gather(
 ) -> State
     ensures { λ r. ⌜ r
         ≡ gathered initialised «controller_count» «object_count» (now (modes .entry)) (now (requests .entry)) (now (marks .entry)) (now (owners .entry)) (now (receivings .entry))
-        (now (pendings .entry)) (now (dones .entry)) (now (fulls .entry)) (now (payloads .entry)) (now (paddings .entry)) (now (codes .entry)) (now (masks .entry)) ⌝ }
+        (now (pools .entry)) (now (pendings .entry)) (now (dones .entry)) (now (fulls .entry)) (now (payloads .entry)) (now (paddings .entry)) (now (codes .entry)) (now (masks .entry)) ⌝ }
 {
     let all_modes = *modes;
     let all_requests = *requests;
     let all_marks = *marks;
     let all_owners = *owners;
     let all_receivings = *receivings;
+    let all_pools = *pools;
     let all_pendings = *pendings;
     let all_dones = *dones;
     let all_fulls = *fulls;
@@ -55,6 +57,7 @@ fn gather(
         marks: all_marks,
         owners: all_owners,
         receivings: all_receivings,
+        pools: all_pools,
         pendings: all_pendings,
         dones: all_dones,
         fulls: all_fulls,
@@ -76,6 +79,7 @@ fn lay(
     marks: &mut [bool; CONTROLLERS],
     owners: &mut [u8; OBJECTS],
     receivings: &mut [bool; OBJECTS],
+    pools: &mut [u8; OBJECTS],
     pendings: &mut [bool; OBJECTS],
     dones: &mut [bool; OBJECTS],
     fulls: &mut [bool; OBJECTS],
@@ -85,7 +89,7 @@ fn lay(
     masks: &mut [u32; OBJECTS],
 )
     ensures same { λ _. ⌜ gathered (now (initialised .exit)) (now («controller_count» .exit)) (now («object_count» .exit)) (now (modes .exit)) (now (requests .exit)) (now (marks .exit)) (now (owners .exit)) (now (receivings .exit))
-        (now (pendings .exit)) (now (dones .exit)) (now (fulls .exit)) (now (payloads .exit)) (now (paddings .exit)) (now (codes .exit)) (now (masks .exit))
+        (now (pools .exit)) (now (pendings .exit)) (now (dones .exit)) (now (fulls .exit)) (now (payloads .exit)) (now (paddings .exit)) (now (codes .exit)) (now (masks .exit))
         ≡ state ⌝ }
     ensures sized { λ _. ⌜ Sized state ⌝ }
 {
@@ -94,6 +98,7 @@ fn lay(
     let all_marks = state.marks;
     let all_owners = state.owners;
     let all_receivings = state.receivings;
+    let all_pools = state.pools;
     let all_pendings = state.pendings;
     let all_dones = state.dones;
     let all_fulls = state.fulls;
@@ -106,6 +111,7 @@ fn lay(
     *marks = all_marks;
     *owners = all_owners;
     *receivings = all_receivings;
+    *pools = all_pools;
     *pendings = all_pendings;
     *dones = all_dones;
     *fulls = all_fulls;
@@ -128,6 +134,7 @@ pub fn init(
     marks: &mut [bool; CONTROLLERS],
     owners: &mut [u8; OBJECTS],
     receivings: &mut [bool; OBJECTS],
+    pools: &mut [u8; OBJECTS],
     pendings: &mut [bool; OBJECTS],
     dones: &mut [bool; OBJECTS],
     fulls: &mut [bool; OBJECTS],
@@ -142,17 +149,17 @@ pub fn init(
     ensures left { λ _. ⌜ whole
         (view
         (gathered (now (initialised .exit)) (now («controller_count» .exit)) (now («object_count» .exit)) (now (modes .exit)) (now (requests .exit)) (now (marks .exit)) (now (owners .exit)) (now (receivings .exit))
-        (now (pendings .exit)) (now (dones .exit)) (now (fulls .exit)) (now (payloads .exit)) (now (paddings .exit)) (now (codes .exit)) (now (masks .exit))))
+        (now (pools .exit)) (now (pendings .exit)) (now (dones .exit)) (now (fulls .exit)) (now (payloads .exit)) (now (paddings .exit)) (now (codes .exit)) (now (masks .exit))))
         (now (ram .exit)) (now (sheet .exit))
         ≡ whole-of
         (calls.init chip can-format
         (view
         (gathered (now (initialised .entry)) (now («controller_count» .entry)) (now («object_count» .entry)) (now (modes .entry)) (now (requests .entry)) (now (marks .entry)) (now (owners .entry)) (now (receivings .entry))
-        (now (pendings .entry)) (now (dones .entry)) (now (fulls .entry)) (now (payloads .entry)) (now (paddings .entry)) (now (codes .entry)) (now (masks .entry))))
+        (now (pools .entry)) (now (pendings .entry)) (now (dones .entry)) (now (fulls .entry)) (now (payloads .entry)) (now (paddings .entry)) (now (codes .entry)) (now (masks .entry))))
         (length (now (sheet .entry))) (now (ram .entry)) (now (bytes .entry))) (now (sheet .entry)) ⌝ }
     ensures sized { λ _. ⌜ Sized
         (gathered (now (initialised .exit)) (now («controller_count» .exit)) (now («object_count» .exit)) (now (modes .exit)) (now (requests .exit)) (now (marks .exit)) (now (owners .exit)) (now (receivings .exit))
-        (now (pendings .exit)) (now (dones .exit)) (now (fulls .exit)) (now (payloads .exit)) (now (paddings .exit)) (now (codes .exit)) (now (masks .exit))) ⌝ }
+        (now (pools .exit)) (now (pendings .exit)) (now (dones .exit)) (now (fulls .exit)) (now (payloads .exit)) (now (paddings .exit)) (now (codes .exit)) (now (masks .exit))) ⌝ }
 {
     let state = gather(
         *initialised,
@@ -163,6 +170,7 @@ pub fn init(
         marks,
         owners,
         receivings,
+        pools,
         pendings,
         dones,
         fulls,
@@ -183,6 +191,7 @@ pub fn init(
         marks,
         owners,
         receivings,
+        pools,
         pendings,
         dones,
         fulls,
@@ -203,6 +212,7 @@ pub fn deinit(
     marks: &mut [bool; CONTROLLERS],
     owners: &mut [u8; OBJECTS],
     receivings: &mut [bool; OBJECTS],
+    pools: &mut [u8; OBJECTS],
     pendings: &mut [bool; OBJECTS],
     dones: &mut [bool; OBJECTS],
     fulls: &mut [bool; OBJECTS],
@@ -216,17 +226,17 @@ pub fn deinit(
     ensures left { λ _. ⌜ whole
         (view
         (gathered (now (initialised .exit)) (now («controller_count» .exit)) (now («object_count» .exit)) (now (modes .exit)) (now (requests .exit)) (now (marks .exit)) (now (owners .exit)) (now (receivings .exit))
-        (now (pendings .exit)) (now (dones .exit)) (now (fulls .exit)) (now (payloads .exit)) (now (paddings .exit)) (now (codes .exit)) (now (masks .exit))))
+        (now (pools .exit)) (now (pendings .exit)) (now (dones .exit)) (now (fulls .exit)) (now (payloads .exit)) (now (paddings .exit)) (now (codes .exit)) (now (masks .exit))))
         (now (ram .exit)) (now (sheet .exit))
         ≡ whole-of
         (calls.deinit chip can-format
         (view
         (gathered (now (initialised .entry)) (now («controller_count» .entry)) (now («object_count» .entry)) (now (modes .entry)) (now (requests .entry)) (now (marks .entry)) (now (owners .entry)) (now (receivings .entry))
-        (now (pendings .entry)) (now (dones .entry)) (now (fulls .entry)) (now (payloads .entry)) (now (paddings .entry)) (now (codes .entry)) (now (masks .entry))))
+        (now (pools .entry)) (now (pendings .entry)) (now (dones .entry)) (now (fulls .entry)) (now (payloads .entry)) (now (paddings .entry)) (now (codes .entry)) (now (masks .entry))))
         (length (now (sheet .entry))) (now (ram .entry))) (now (sheet .entry)) ⌝ }
     ensures sized { λ _. ⌜ Sized
         (gathered (now (initialised .exit)) (now («controller_count» .exit)) (now («object_count» .exit)) (now (modes .exit)) (now (requests .exit)) (now (marks .exit)) (now (owners .exit)) (now (receivings .exit))
-        (now (pendings .exit)) (now (dones .exit)) (now (fulls .exit)) (now (payloads .exit)) (now (paddings .exit)) (now (codes .exit)) (now (masks .exit))) ⌝ }
+        (now (pools .exit)) (now (pendings .exit)) (now (dones .exit)) (now (fulls .exit)) (now (payloads .exit)) (now (paddings .exit)) (now (codes .exit)) (now (masks .exit))) ⌝ }
 {
     let state = gather(
         *initialised,
@@ -237,6 +247,7 @@ pub fn deinit(
         marks,
         owners,
         receivings,
+        pools,
         pendings,
         dones,
         fulls,
@@ -257,6 +268,7 @@ pub fn deinit(
         marks,
         owners,
         receivings,
+        pools,
         pendings,
         dones,
         fulls,

@@ -1,4 +1,4 @@
-// Write: takes a frame into a sending object, where it waits to be sent.
+// Write: takes a frame into a member of a pool of sending objects, where it waits to be sent.
 ghost use lib.ListN.{length};
 ghost use Rattle.rules.specs.Calls as rules;
 ghost use Rattle.rules.specs.Can.{can-format};
@@ -15,7 +15,7 @@ use can_state::state::State;
 use can_state::validity::valid;
 use core_answers::gate::full_gate;
 
-// Lays the frame down whole in a free sending object of a STARTED controller. Any object may be named.
+// Lays the frame down whole in the lowest free member of the pool that the object names, on a STARTED controller. Any object may be named.
 pub fn write(
     state: State,
     ram: &mut [u8],
@@ -41,6 +41,7 @@ pub fn write(
     let marks = state.marks;
     let owners = state.owners;
     let receivings = state.receivings;
+    let pools = state.pools;
     let mut pendings = state.pendings;
     let mut dones = state.dones;
     let mut fulls = state.fulls;
@@ -53,10 +54,12 @@ pub fn write(
         &marks,
         &owners,
         &receivings,
+        &pools,
         &mut pendings,
         &mut dones,
         &mut fulls,
         settings,
+        &paddings,
         ram,
         sheet,
         object,

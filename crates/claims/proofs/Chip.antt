@@ -2,8 +2,13 @@
 use native.Mathlib.Omega.{arith}
 use Rattle.rules.specs.Can.{can-format}
 use Rattle.rules.specs.Chip.{chip}
-use Rattle.laws.specs.WriteRule.{CanWriteRule}
-use Rattle.laws.proofs.WriteRule.{can-write-rule}
+use Rattle.laws.specs.WriteRule.{CanWriteRule, MemberRule, BusyRule}
+use Rattle.laws.specs.WriterRule.{ReadBackRule, OnlyBytesRule, SayRule, CannotSayRule, ShortBufferRule, BufferKeptRule, WrittenRule, AcceptedRule}
+use Rattle.laws.specs.NextRule.{AskedRule, NoneRule, CanNextRule, UnchangedRule}
+use Rattle.laws.proofs.WriteRule.{can-write-rule, member-rule, busy-rule}
+use Rattle.laws.proofs.WriterRule.{read-back-rule, only-bytes-rule, say-rule, cannot-say-rule, short-buffer-rule, buffer-kept-rule, written-rule}
+use Rattle.laws.proofs.CanWriter.{can-sayable, accepted-rule}
+use Rattle.laws.proofs.NextRule.{asked-rule, none-rule, can-next-rule, unchanged-rule}
 use Rattle.history.specs.Claim.{HistoryRule, ReferenceRule}
 use Rattle.history.specs.PollRule.{PollRule}
 use Rattle.history.specs.Demand1.{RefusalRule, ValidRule}
@@ -51,3 +56,55 @@ chip-received-rule = received-rule chip can-format
 -- calls that are handed one sheet, one after the other, leave what the list of them leaves
 pub chip-replay-rule : ReplayRule chip can-format
 chip-replay-rule = replay-rule chip can-format
+
+-- 02, Q-2: which member of its pool a write takes, and when it finds none
+pub chip-member-rule : MemberRule chip can-format
+chip-member-rule = member-rule chip can-format
+
+pub chip-busy-rule : BusyRule chip can-format
+chip-busy-rule = busy-rule chip can-format
+
+-- 02, Q-2, who sends next: when it is answered, when with "none", and whose frame goes first, each both ways; and it changes nothing
+pub chip-asked-rule : AskedRule chip can-format
+chip-asked-rule = asked-rule chip can-format
+
+pub chip-none-rule : NoneRule chip can-format
+chip-none-rule = none-rule chip can-format
+
+pub chip-next-rule : CanNextRule chip
+chip-next-rule = can-next-rule chip
+
+pub chip-unchanged-rule : UnchangedRule chip can-format
+chip-unchanged-rule = unchanged-rule chip can-format
+
+-- the writer of configurations: what it wrote is read back as the same version and configuration
+pub chip-read-back-rule : ReadBackRule chip can-format
+chip-read-back-rule = read-back-rule chip can-format can-sayable
+
+-- no other bytes of a version mean the same
+pub chip-only-bytes-rule : OnlyBytesRule chip can-format
+chip-only-bytes-rule = only-bytes-rule chip can-format can-sayable
+
+-- a version says exactly what some bytes of it mean
+pub chip-say-rule : SayRule chip can-format
+chip-say-rule = say-rule chip can-format can-sayable
+
+-- the writer gives 9 exactly for what its version cannot say
+pub chip-cannot-say-rule : CannotSayRule chip can-format
+chip-cannot-say-rule = cannot-say-rule chip can-format can-sayable
+
+-- then 32 for a short buffer
+pub chip-short-buffer-rule : ShortBufferRule chip can-format
+chip-short-buffer-rule = short-buffer-rule chip can-format can-sayable
+
+-- a refusal leaves the buffer as it was
+pub chip-buffer-kept-rule : BufferKeptRule chip can-format
+chip-buffer-kept-rule = buffer-kept-rule chip can-format
+
+-- a buffer that was written to begins with what says the configuration, and is as it was behind it
+pub chip-written-rule : WrittenRule chip can-format
+chip-written-rule = written-rule chip can-format can-sayable
+
+-- a valid configuration is one that Init accepts: what some accepted bytes mean, and no other is
+pub chip-accepted-rule : AcceptedRule chip
+chip-accepted-rule = accepted-rule chip (omega arith) (omega arith)

@@ -6,7 +6,7 @@ use mathlib.Core.List.{List, [], _∷_, _++_}
 use lib.ListN.{replicate}
 use native.Mathlib.Omega.{arith}
 use Rattle.rules.specs.Limits.{sheet-size, ram-size}
-use Rattle.rules.specs.Repeat.{rising, all-below, list-below, better, best-below}
+use Rattle.rules.specs.Repeat.{rising, all-below, list-below, lowest-or, better, best-below}
 use Rattle.rules.specs.Bytes.{big-endian, number, splice, same-bytes}
 use Rattle.rules.specs.Mode.{STARTED, STOPPED}
 use Rattle.rules.specs.Reason.{first-reason, return-code}
@@ -71,7 +71,7 @@ between =
 
 -- PollRule: object 0 is sent, all this comes between, and then the write poll
 pub sent-then-polled : SentThenPolled chip can-format 0 before between ram sheet
-unfolding rising all-below list-below better best-below big-endian number splice same-bytes first-reason return-code configuration-of accepted-bytes core-valid valid judged state-gate sheet-gate full-gate init set-controller-mode write main-function-write main-function-read main-function-mode main-function-bus-off tx-complete bus-off-detected frame-arrived services.set-controller-mode polls.main-function-write polls.main-function-read polls.main-function-mode polls.main-function-bus-off visit-all turn-all events.tx-complete events.bus-off-detected events.best-object next-length lengths-below object-bytes performed trace left-by force-by reference-by
+unfolding rising all-below list-below lowest-or better best-below big-endian number splice same-bytes first-reason return-code configuration-of accepted-bytes core-valid valid judged state-gate sheet-gate full-gate init set-controller-mode write main-function-write main-function-read main-function-mode main-function-bus-off tx-complete bus-off-detected frame-arrived services.set-controller-mode polls.main-function-write polls.main-function-read polls.main-function-mode polls.main-function-bus-off visit-all turn-all events.tx-complete events.bus-off-detected events.best-object next-length lengths-below object-bytes performed trace left-by force-by reference-by
 sent-then-polled = record { sent = refl; none-came = (refl, (refl, (refl, (refl, (refl, (refl, (refl, tt))))))); polled = refl }
 
 -- ValidRule and ReceivedRule: a sound state in which object 3 is full
@@ -79,5 +79,5 @@ abbrev pub full-state : State can-format
 full-state = left-by chip can-format (before ++ (FrameArrived sheet 0 frame ∷ [])) (initial-state chip can-format) ram .state
 
 pub full-and-sound : (valid chip can-format full-state ≡ true) × (mailbox-at (full-state .core .mailboxes) 3 .rx-full ≡ true)
-unfolding rising all-below list-below better best-below big-endian number splice same-bytes first-reason return-code configuration-of accepted-bytes core-valid valid judged sheet-gate full-gate init set-controller-mode write main-function-mode frame-arrived services.set-controller-mode polls.main-function-mode visit-all turn-all events.best-object next-length lengths-below object-bytes performed left-by
+unfolding rising all-below list-below lowest-or better best-below big-endian number splice same-bytes first-reason return-code configuration-of accepted-bytes core-valid valid judged sheet-gate full-gate init set-controller-mode write main-function-mode frame-arrived services.set-controller-mode polls.main-function-mode visit-all turn-all events.best-object next-length lengths-below object-bytes performed left-by
 full-and-sound = (refl, refl)

@@ -1,6 +1,7 @@
 -- The paper's reason and values for every case of the answers that tell more than a verdict.
 use Prim.Native.Nat.{ℕ}
-use Rattle.rules.specs.Outcome.{Answer, no-answer, mode, taken-by, stored-in, unwanted, lost}
+use mathlib.Core.Option.{none, some}
+use Rattle.rules.specs.Outcome.{Answer, no-answer, mode, taken-by, stored-in, unwanted, lost, sends-next}
 use Rattle.core_answers.specs.Answer.{reason-of}
 use Rattle.core_answers.specs.declared.reply.ModeReply as modes
 use Rattle.core_answers.specs.declared.reply.ModeReply.{ModeReply}
@@ -8,6 +9,8 @@ use Rattle.core_answers.specs.declared.reply.WriteReply as writes
 use Rattle.core_answers.specs.declared.reply.WriteReply.{WriteReply}
 use Rattle.core_answers.specs.declared.reply.ArrivalReply as arrivals
 use Rattle.core_answers.specs.declared.reply.ArrivalReply.{ArrivalReply}
+use Rattle.core_answers.specs.declared.reply.NextReply as nexts
+use Rattle.core_answers.specs.declared.reply.NextReply.{NextReply}
 
 -- GetControllerMode "answers the mode, and 0 with a no"
 abbrev pub mode-reason : ModeReply → ℕ
@@ -39,3 +42,14 @@ arrival-answer (arrivals.the-variants.Stored h) = stored-in h
 arrival-answer arrivals.the-variants.Unwanted = unwanted
 arrival-answer arrivals.the-variants.Lost = lost
 arrival-answer (arrivals.the-variants.Rejected r) = no-answer
+
+-- Who sends next on a controller, or 02's "none", which is no refusal.
+abbrev pub next-reason : NextReply → ℕ
+next-reason (nexts.the-variants.Next h) = 0
+next-reason nexts.the-variants.Nobody = 0
+next-reason (nexts.the-variants.Rejected r) = reason-of r
+
+abbrev pub next-answer : NextReply → Answer
+next-answer (nexts.the-variants.Next h) = sends-next (some h)
+next-answer nexts.the-variants.Nobody = sends-next none
+next-answer (nexts.the-variants.Rejected r) = no-answer

@@ -61,3 +61,17 @@ pub fn full_gate(
     }
     Verdict::Accepted
 }
+
+// A call that takes memory of so many bytes and no sheet.
+pub fn ram_gate(valid: bool, ram: usize, ram_size: usize) -> Verdict
+    ensures { λ r. ⌜ verdict-reason r ≡ first-reason (INVALID-STATE if not valid ∷ WRONG-RAM-SIZE if not (eqb ram «ram_size») ∷ []) ⌝ }
+{
+    let wrong = ram != ram_size;
+    if !valid {
+        return Verdict::Rejected(Rejection::InvalidState);
+    }
+    if wrong {
+        return Verdict::Rejected(Rejection::WrongRamSize);
+    }
+    Verdict::Accepted
+}

@@ -1,7 +1,7 @@
 // What the calls answer that tell more than a verdict. crates/core_answers/specs/Reply.antt gives the paper's numbers for each case.
 ghost use mathlib.Core.Path.{_≡_};
 ghost use Rattle.core_answers.specs.Answer.{verdict-reason};
-ghost use Rattle.core_answers.specs.Reply.{mode-reason, write-reason, arrival-reason};
+ghost use Rattle.core_answers.specs.Reply.{mode-reason, write-reason, arrival-reason, next-reason};
 use crate::rejection::Rejection;
 use crate::verdict::Verdict;
 
@@ -22,6 +22,13 @@ pub enum ArrivalReply {
     Stored(u32),
     Unwanted,
     Lost,
+    Rejected(Rejection),
+}
+
+// Who sends next: the object; nobody does; or why that cannot be asked.
+pub enum NextReply {
+    Next(u32),
+    Nobody,
     Rejected(Rejection),
 }
 
@@ -54,5 +61,16 @@ pub fn arrival_verdict(reply: ArrivalReply) -> Verdict
         ArrivalReply::Unwanted => Verdict::Accepted,
         ArrivalReply::Lost => Verdict::Accepted,
         ArrivalReply::Rejected(r) => Verdict::Rejected(r),
+    }
+}
+
+// The verdict in the answer to who sends next: that nobody does is accepted.
+pub fn next_verdict(reply: NextReply) -> Verdict
+    ensures { λ v. ⌜ verdict-reason v ≡ next-reason reply ⌝ }
+{
+    match reply {
+        NextReply::Next(_) => Verdict::Accepted,
+        NextReply::Nobody => Verdict::Accepted,
+        NextReply::Rejected(r) => Verdict::Rejected(r),
     }
 }

@@ -2,3 +2,4 @@
 -- for the rules'.
 pub mod Checks
 pub mod Pick
+pub mod Next

@@ -1,4 +1,5 @@
--- The arrival's choice in code: the object picked so far, with its rank at hand. 01: "It is stored in the lowest-numbered empty object that fits".
+-- The choice in code, an arrival's and that of who sends next: the object picked so far, with its rank at hand. 01: "It is stored in the
+-- lowest-numbered empty object that fits".
 use Prim.Native.Nat.{ℕ}
 use mathlib.Core.Bool.{Bool, true, cond, _&&_}
 use mathlib.Core.Option.{Option, none, some}

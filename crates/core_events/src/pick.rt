@@ -1,5 +1,5 @@
-// Which object an arriving frame goes to: the one with the best rank among those that fit, the lowest among equals. One object at a time;
-// the frames go over all of them.
+// Which object an arriving frame goes to, or who sends next: the one with the best rank among those that fit, the lowest among equals. One
+// object at a time; the crates that know the frames go over all of them.
 ghost use mathlib.Core.Path.{_≡_};
 ghost use Rattle.rules.specs.Events as rules;
 ghost use Rattle.core_places.specs.View.{view-mailbox};

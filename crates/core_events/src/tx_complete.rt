@@ -8,7 +8,7 @@ ghost use Rattle.rules.specs.Core.{Core, with-mailboxes};
 ghost use Rattle.rules.specs.Outcome.{no-answer};
 ghost use Rattle.rules.specs.Events as rules;
 ghost use Rattle.core_places.specs.View.{view-controller, view-mailbox};
-ghost use Rattle.core_places.specs.Arrays.{Alike, controllers-in, owners-in, mailboxes-in};
+ghost use Rattle.core_places.specs.Arrays.{Alike, controllers-in, mailboxes-in};
 ghost use Rattle.core_places.specs.Held.{Held};
 ghost use Rattle.core_answers.specs.Answer.{verdict-reason};
 ghost use Rattle.core_answers.specs.Performed.{Performed};
@@ -17,8 +17,9 @@ use core_answers::rejection::Rejection;
 use core_answers::verdict::Verdict;
 use core_answers::verdict::then;
 use core_places::at::controller_at;
+use core_places::at::flag_at;
 use core_places::at::mailbox_at;
-use core_places::at::owner_at;
+use core_places::at::number_at;
 use core_places::controller::Controller;
 use core_places::mailbox::Mailbox;
 use core_places::store::set_mailbox;
@@ -70,20 +71,20 @@ pub fn tx_complete(
     fulls: &mut [bool],
     object: u32,
 ) -> Verdict
-    requires { ⌜ Alike (now modes) (now requests) (now marks) × (length (now receivings) ≡ length (now owners))
-        × Alike (now pendings) (now dones) (now fulls) × (verdict-reason gate ≡ 0 → «object_count» ≤ length (now pendings)) ⌝ }
+    requires { ⌜ Alike (now modes) (now requests) (now marks) × Alike (now pendings) (now dones) (now fulls) × (verdict-reason gate ≡ 0 → «object_count» ≤ length (now pendings)) ⌝ }
     ensures { λ r. ⌜ ((core : Core) (ram : List ℕ)
-        → Held core initialised «object_count» (owners-in (now (owners .entry)) (now (receivings .entry)))
+        → Held core initialised «object_count» (now (owners .entry)) (now (receivings .entry))
         (controllers-in (now (modes .entry)) (now (requests .entry)) (now (marks .entry)))
         (mailboxes-in (now (pendings .entry)) (now (dones .entry)) (now (fulls .entry)))
         → Performed (rules.tx-complete (verdict-reason gate) core ram object) (verdict-reason r) no-answer
         (with-mailboxes core (mailboxes-in (now (pendings .exit)) (now (dones .exit)) (now (fulls .exit)))) 0 ram [] []) ⌝ }
 {
     let h = object as usize;
-    let o = owner_at(owners, receivings, h);
-    let k = controller_at(modes, requests, marks, o.controller as usize);
+    let owner = number_at(owners, h);
+    let receiving = flag_at(receivings, h);
+    let k = controller_at(modes, requests, marks, owner as usize);
     let m = mailbox_at(pendings, dones, fulls, h);
-    let sending = (h < object_count) & !o.receiving;
+    let sending = (h < object_count) & !receiving;
     let verdict = then(gate, judge_sent(initialised, sending, m, k));
     match verdict {
         Verdict::Accepted => {

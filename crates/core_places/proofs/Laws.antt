@@ -6,7 +6,8 @@ use mathlib.Core.List.{List, [], _∷_}
 use native.Mathlib.Omega.{arith}
 use lib.ListN.{length, getD, set, List·getD-eq-default}
 use Rattle.rules.specs.Core as rules
-use Rattle.core_places.specs.Held.{Held, ObjectRead}
+use Rattle.core_places.specs.Held.{Owned, Held, ObjectRead}
+use Rattle.core_places.specs.Pools.{pooled, Pooled}
 use Rattle.core_places.specs.Arrays.{zip-with, zip-with-3, zip-with-4, controllers-in, owners-in, mailboxes-in, Alike}
 
 module _ {A B C : Type 0} (f : A → B → C) where
@@ -67,9 +68,24 @@ pub controller-seen : (modes requests : List ℕ) (marks : List Bool) (c : ℕ) 
     → rules.controller-at (controllers-in modes requests marks) c ≡ record { mode = getD modes c 0; requested-mode = getD requests c 0; bus-off = getD marks c false }
 controller-seen modes requests marks c alike = zip-3-at (λ m r b. record { mode = m; requested-mode = r; bus-off = b }) modes requests marks c 0 0 false alike
 
-pub owner-seen : (controllers : List ℕ) (receivings : List Bool) (h : ℕ) → length receivings ≡ length controllers
-    → rules.owner-at (owners-in controllers receivings) h ≡ record { controller = getD controllers h 0; receiving = getD receivings h false }
-owner-seen controllers receivings h e = zip-at (λ c r. record { controller = c; receiving = r }) controllers receivings h 0 false e
+pub owner-seen : (controllers : List ℕ) (receivings : List Bool) (pools : List ℕ) (h : ℕ) → Alike controllers receivings pools
+    → rules.owner-at (owners-in controllers receivings pools) h ≡ record { controller = getD controllers h 0; receiving = getD receivings h false; pool = getD pools h 0 }
+owner-seen controllers receivings pools h alike = zip-3-at (λ c r p. record { controller = c; receiving = r; pool = p }) controllers receivings pools h 0 false 0 alike
+
+-- the owners in these arrays
+pub owned-in : (controllers : List ℕ) (receivings : List Bool) (pools : List ℕ) → Alike controllers receivings pools → Owned (owners-in controllers receivings pools) controllers receivings
+owned-in controllers receivings pools alike =
+    record {
+      controller-is = λ h. ap (λ (o : rules.Owner). o .controller) (owner-seen controllers receivings pools h alike);
+      kind-is = λ h. ap (λ (o : rules.Owner). o .receiving) (owner-seen controllers receivings pools h alike);
+    }
+
+pub pooled-in : (controllers : List ℕ) (receivings : List Bool) (pools : List ℕ) → Alike controllers receivings pools → Pooled (owners-in controllers receivings pools) pools
+pooled-in controllers receivings pools alike = record { pool-is = λ h. ap (λ (o : rules.Owner). o .pool) (owner-seen controllers receivings pools h alike) }
+
+-- so a member is known by the arrays
+pub member-seen : {os : List rules.Owner} {owners : List ℕ} {receivings : List Bool} {pools : List ℕ} → Owned os owners receivings → Pooled os pools → (pool i : ℕ) → rules.in-pool os pool i ≡ pooled receivings pools pool i
+member-seen owned pools pool i = rw (owned .kind-is i, pools .pool-is i)
 
 pub mailbox-seen : (pendings dones fulls : List Bool) (h : ℕ) → Alike pendings dones fulls
     → rules.mailbox-at (mailboxes-in pendings dones fulls) h ≡ record { tx-pending = getD pendings h false; tx-done = getD dones h false; rx-full = getD fulls h false }
@@ -79,19 +95,17 @@ mailbox-seen pendings dones fulls h alike = zip-3-at (λ p d f. record { tx-pend
 pub controller-past : (modes requests : List ℕ) (marks : List Bool) (c : ℕ) → Alike modes requests marks → length modes ≤ c → rules.idle-controller ≡ rules.controller-at (controllers-in modes requests marks) c
 controller-past modes requests marks c alike past = sym (List·getD-eq-default (controllers-in modes requests marks) rules.idle-controller (rw (zip-3-length _ modes requests marks alike) past))
 
-pub owner-past : (controllers : List ℕ) (receivings : List Bool) (h : ℕ) → length receivings ≡ length controllers → length controllers ≤ h → rules.unused-owner ≡ rules.owner-at (owners-in controllers receivings) h
-owner-past controllers receivings h e past = sym (List·getD-eq-default (owners-in controllers receivings) rules.unused-owner (rw (zip-length _ controllers receivings e) past))
-
 pub mailbox-past : (pendings dones fulls : List Bool) (h : ℕ) → Alike pendings dones fulls → length pendings ≤ h → rules.empty-mailbox ≡ rules.mailbox-at (mailboxes-in pendings dones fulls) h
 mailbox-past pendings dones fulls h alike past = sym (List·getD-eq-default (mailboxes-in pendings dones fulls) rules.empty-mailbox (rw (zip-3-length _ pendings dones fulls alike) past))
 
 -- what is read of an object in the lists that a caller holds is what the core has there
-pub object-read : {core : rules.Core} {initialised : Bool} {n : ℕ} {os : List rules.Owner} {ks : List rules.Controller} {ms : List rules.Mailbox} {o : rules.Owner} {k : rules.Controller} {m : rules.Mailbox} (h : ℕ)
-    → Held core initialised n os ks ms → o ≡ rules.owner-at os h → k ≡ rules.controller-at ks (o .controller) → m ≡ rules.mailbox-at ms h → ObjectRead core h o k m
-object-read h held eo ek em =
+pub object-read : {core : rules.Core} {initialised : Bool} {n : ℕ} {owners : List ℕ} {receivings : List Bool} {ks : List rules.Controller} {ms : List rules.Mailbox}
+    {c : ℕ} {r : Bool} {k : rules.Controller} {m : rules.Mailbox} (h : ℕ) → Held core initialised n owners receivings ks ms
+    → c ≡ getD owners h 0 → r ≡ getD receivings h false → k ≡ rules.controller-at ks c → m ≡ rules.mailbox-at ms h → ObjectRead core h r k m
+object-read h held ec er ek em =
     record {
-      owner-is = rw (held .owners-are) eo;
-      controller-is = rw (held .controllers-are, held .owners-are, ← eo) ek;
+      kind-is = er ∙ sym (held .owned .kind-is h);
+      controller-is = rw (held .controllers-are, held .owned .controller-is h, ← ec) ek;
       mailbox-is = rw (held .mailboxes-are) em;
     }
 

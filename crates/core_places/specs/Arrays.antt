@@ -24,22 +24,22 @@ zip-with-4 f xs ys zs ws = zip-with (λ g w. g w) (zip-with-3 f xs ys zs) ws
 abbrev pub controllers-in : List ℕ → List ℕ → List Bool → List Controller
 controllers-in modes requests marks = zip-with-3 (λ m r b. record { mode = m; requested-mode = r; bus-off = b }) modes requests marks
 
--- controller, kind
-abbrev pub owners-in : List ℕ → List Bool → List Owner
-owners-in controllers receivings = zip-with (λ c r. record { controller = c; receiving = r }) controllers receivings
+-- controller, kind, pool
+abbrev pub owners-in : List ℕ → List Bool → List ℕ → List Owner
+owners-in controllers receivings pools = zip-with-3 (λ c r p. record { controller = c; receiving = r; pool = p }) controllers receivings pools
 
 -- occupied, gone, full
 abbrev pub mailboxes-in : List Bool → List Bool → List Bool → List Mailbox
 mailboxes-in pendings dones fulls = zip-with-3 (λ p d f. record { tx-pending = p; tx-done = d; rx-full = f }) pendings dones fulls
 
 -- the core that stands in these arrays
-abbrev pub core-in : Bool → ℕ → ℕ → List ℕ → List ℕ → List Bool → List ℕ → List Bool → List Bool → List Bool → List Bool → Core
-core-in initialised controller-count object-count modes requests marks owners receivings pendings dones fulls =
+abbrev pub core-in : Bool → ℕ → ℕ → List ℕ → List ℕ → List Bool → List ℕ → List Bool → List ℕ → List Bool → List Bool → List Bool → Core
+core-in initialised controller-count object-count modes requests marks owners receivings pools pendings dones fulls =
     record {
       initialised = initialised;
       controller-count = controller-count;
       object-count = object-count;
-      owners = owners-in owners receivings;
+      owners = owners-in owners receivings pools;
       controllers = controllers-in modes requests marks;
       mailboxes = mailboxes-in pendings dones fulls;
     }

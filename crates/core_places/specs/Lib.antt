@@ -2,3 +2,4 @@
 pub mod View
 pub mod Arrays
 pub mod Held
+pub mod Pools

@@ -8,7 +8,7 @@ abbrev pub view-controller : Controller → rules.Controller
 view-controller k = record { mode = k .mode; requested-mode = k .«requested_mode»; bus-off = k .«bus_off» }
 
 abbrev pub view-owner : Owner → rules.Owner
-view-owner o = record { controller = o .controller; receiving = o .receiving }
+view-owner o = record { controller = o .controller; receiving = o .receiving; pool = o .pool }
 
 abbrev pub view-mailbox : Mailbox → rules.Mailbox
 view-mailbox m = record { tx-pending = m .«tx_pending»; tx-done = m .«tx_done»; rx-full = m .«rx_full» }

@@ -1,17 +1,30 @@
 // What stands at a place of lent arrays: at one that there is (`read_..`), or at any number, where past the last place there is what stands
-// at one at rest (`.._at`).
+// at one at rest (`.._at`). What a call reads of an owner it reads field by field, so that no call is lent a field that it does not read.
 ghost use mathlib.Core.Path.{_≡_};
+ghost use mathlib.Core.Bool.{false};
 ghost use Prim.Native.Nat.{_<_};
-ghost use lib.ListN.{length};
+ghost use lib.ListN.{length, getD};
 ghost use Rattle.rules.specs.Core as rules;
-ghost use Rattle.core_places.specs.View.{view-controller, view-owner, view-mailbox};
-ghost use Rattle.core_places.specs.Arrays.{Alike, controllers-in, owners-in, mailboxes-in};
+ghost use Rattle.core_places.specs.View.{view-controller, view-mailbox};
+ghost use Rattle.core_places.specs.Arrays.{Alike, controllers-in, mailboxes-in};
 use crate::controller::Controller;
 use crate::controller::idle_controller;
 use crate::mailbox::Mailbox;
 use crate::mailbox::empty_mailbox;
-use crate::owner::Owner;
-use crate::owner::unused_owner;
+
+// The number at position i of an array; 0 past its end.
+pub fn number_at(numbers: &[u8], i: usize) -> u8
+    ensures { λ r. ⌜ r ≡ getD (now (numbers .entry)) i 0 ⌝ }
+{
+    if i < numbers.len() { numbers[i] } else { 0 }
+}
+
+// The flag at position i of an array; clear past its end.
+pub fn flag_at(flags: &[bool], i: usize) -> bool
+    ensures { λ r. ⌜ r ≡ getD (now (flags .entry)) i false ⌝ }
+{
+    if i < flags.len() { flags[i] } else { false }
+}
 
 // Controller c, which there is.
 pub fn read_controller(modes: &[u8], requests: &[u8], marks: &[bool], c: usize) -> Controller
@@ -46,21 +59,6 @@ pub fn controller_at(modes: &[u8], requests: &[u8], marks: &[bool], c: usize) ->
         read_controller(modes, requests, marks, c)
     } else {
         idle_controller()
-    }
-}
-
-// The owner of object h.
-pub fn owner_at(controllers: &[u8], receivings: &[bool], h: usize) -> Owner
-    requires { ⌜ length (now receivings) ≡ length (now controllers) ⌝ }
-    ensures { λ r. ⌜ view-owner r ≡ rules.owner-at (owners-in (now (controllers .entry)) (now (receivings .entry))) h ⌝ }
-{
-    if h < controllers.len() {
-        Owner {
-            controller: controllers[h],
-            receiving: receivings[h],
-        }
-    } else {
-        unused_owner()
     }
 }
 

@@ -1,4 +1,4 @@
-// Whose a hardware object is, and its kind.
+// Whose a hardware object is, its kind, and the pool of one that sends.
 ghost use mathlib.Core.Path.{_≡_};
 ghost use Rattle.rules.specs.Core as rules;
 ghost use Rattle.core_places.specs.View as view;
@@ -6,6 +6,7 @@ ghost use Rattle.core_places.specs.View as view;
 pub struct Owner {
     pub controller: u8,
     pub receiving: bool,
+    pub pool: u8,
 }
 
 // A place at rest.
@@ -15,6 +16,7 @@ pub fn unused_owner() -> Owner
     Owner {
         controller: 0,
         receiving: false,
+        pool: 0,
     }
 }
 
@@ -29,5 +31,5 @@ pub fn owner_valid(controller_count: usize, o: Owner) -> bool
 pub fn owner_unused(o: Owner) -> bool
     ensures { λ r. ⌜ r ≡ rules.owner-unused (view.view-owner o) ⌝ }
 {
-    (o.controller == 0) & !o.receiving
+    (o.controller == 0) & !o.receiving & (o.pool == 0)
 }

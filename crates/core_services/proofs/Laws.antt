@@ -1,25 +1,30 @@
 -- Room on the sheet for the development error of a refused service, from the gate on; and the checks on what is read of a core are the
 -- rules' own.
-use Prim.Native.Nat.{ℕ, _≤_}
+use Prim.Native.Nat.{ℕ, _≤_, _<_}
 use mathlib.Core.Path.{_≡_, refl, sym, ap, _∙_}
-use mathlib.Core.Bool.{Bool, true, false, not, cond, _&&_}
+use mathlib.Core.Bool.{Bool, true, false, not, cond, _&&_, _||_}
 use mathlib.Core.List.{List, _∷_, _++_}
+use mathlib.Core.Logic.{⊎-elim}
 use native.Mathlib.Omega.{arith}
 use lib.ListN.{length, getD}
 use lib.Dec.{eqb, ltb}
-use borrow.Author.Tests.{eqb-true, ltb-false}
+use borrow.Author.Tests.{eqb-true, ltb-true, ltb-false}
 use Rattle.rules.specs.Reason.{Check, _if_, first-reason, _then_, is-development-error, INVALID-STATE, SHEET-TOO-SHORT}
 use Rattle.rules.specs.Mode.{STARTED}
-use Rattle.rules.specs.Core.{Owner, Controller, Mailbox, Core, controller-at, is-started}
+use Rattle.rules.specs.Repeat.{lowest-or}
+use Rattle.rules.specs.Core.{Controller, Mailbox, Core, controller-at, owner-at, mailbox-at, is-started, controller-of, in-pool, names-pool, free-member}
 use Rattle.rules.specs.Services as rules
 use Rattle.rules.specs.Services.{set-controller-mode-checks, some-started, write-reason}
-use Rattle.laws.proofs.Tests.{clash}
+use Rattle.laws.proofs.Tests.{left, clash}
 use Rattle.laws.proofs.Repeat.{all-below-ext}
 use Rattle.core_layout.specs.Sheet.{words-each}
-use Rattle.core_places.specs.Arrays.{Alike, controllers-in}
-use Rattle.core_places.specs.Held.{Controlled, Held, ObjectRead}
-use Rattle.core_places.proofs.Laws.{controller-seen}
+use Rattle.laws.proofs.Pools.{lowest-found, lowest-ext}
+use Rattle.core_places.specs.Arrays.{Alike, controllers-in, mailboxes-in}
+use Rattle.core_places.specs.Held.{Controlled, Held}
+use Rattle.core_places.specs.Pools.{pooled, Pooled}
+use Rattle.core_places.proofs.Laws.{controller-seen, mailbox-seen, member-seen}
 use Rattle.core_services.specs.Checks.{in-use-checks, move-checks, any-started, deinit-checks, sending-checks, free-checks}
+use Rattle.core_services.specs.Pool.{pool-named, free-pooled}
 use Rattle.core_services.specs.Room.{Room}
 
 -- a gate that asks for so many words, of which the first notification takes some, finds no development error where there are fewer
@@ -61,8 +66,39 @@ pub deinit-read : {core : Core} {initialised : Bool} {n : ℕ} (modes requests :
 deinit-read {initialised = initialised} modes requests marks alike held =
     ap (λ (started : Bool). first-reason (deinit-checks initialised started)) (started-read modes requests marks alike held) ∙ rw (held .initialised-is)
 
--- what is asked of an object that is read is what the rules ask of it
-pub write-read : (h frame : ℕ) {core : Core} {initialised : Bool} {n : ℕ} {os : List Owner} {ks : List Controller} {ms : List Mailbox} {o : Owner} {k : Controller} {m : Mailbox}
-    → Held core initialised n os ks ms → ObjectRead core h o k m
-    → (first-reason (sending-checks initialised (ltb h n && not (o .receiving))) then frame then first-reason (free-checks k m)) ≡ write-reason core h frame
-write-read h frame held seen = rw (seen .owner-is, seen .controller-is, seen .mailbox-is, held .initialised-is, held .count-is)
+-- an object that receives, or is in another pool, is no member
+pub no-member : (receivings : List Bool) (pools : List ℕ) (pool i : ℕ) → (getD receivings i false || not (eqb (getD pools i 0) pool)) ≡ not (pooled receivings pools pool i)
+no-member receivings pools pool i = go (getD receivings i false) (eqb (getD pools i 0) pool)
+  where
+    go : (a b : Bool) → (a || not b) ≡ not (not a && b)
+    go true b = refl
+    go false b = refl
+
+-- the member that takes a write to a named pool is in use
+pub member-below : (receivings : List Bool) (pools : List ℕ) (n h : ℕ) (free : ℕ → Bool) → pool-named receivings pools n h ≡ true → lowest-or n free h < n
+member-below receivings pools n h free named =
+    let used = ltb h n in
+    let kind = not (getD receivings h false) in
+    let below = ltb-true h n (left used kind (left (used && kind) (eqb (lowest-or h (pooled receivings pools (getD pools h 0)) h) h) named)) in
+    ⊎-elim (λ (e : lowest-or n free h ≡ h). rw e below) (λ (f : (lowest-or n free h < n) × (free (lowest-or n free h) ≡ true)). f .0) (lowest-found n free h)
+
+-- what is read of the pools in the arrays is what the core has there
+module _ {core : Core} {initialised : Bool} {n : ℕ} {owners : List ℕ} {receivings : List Bool} {pools : List ℕ} {ks : List Controller} {pendings dones fulls : List Bool}
+    (held : Held core initialised n owners receivings ks (mailboxes-in pendings dones fulls)) (by-pool : Pooled (core .owners) pools) (alike : Alike pendings dones fulls) where
+  pub named-read : (h : ℕ) → pool-named receivings pools n h ≡ names-pool core h
+  named-read h =
+      let own = getD pools h 0 in
+      let same = lowest-ext h (pooled receivings pools own) (in-pool (core .owners) own) h (λ i l. sym (member-seen (held .owned) by-pool own i)) in
+      rw (held .count-is, held .owned .kind-is h, by-pool .pool-is h, same)
+
+  pub member-read : (h : ℕ) → lowest-or n (free-pooled receivings pools pendings (getD pools h 0)) h ≡ free-member core h
+  member-read h =
+      rw (held .count-is, ← by-pool .pool-is h)
+      (lowest-ext n _ _ h
+      (λ i l. rw (held .mailboxes-are, mailbox-seen pendings dones fulls i alike) (ap (λ (b : Bool). b && not (getD pendings i false)) (sym (member-seen (held .owned) by-pool (owner-at (core .owners) h .pool) i)))))
+
+-- what is asked of a pool that is read is what the rules ask of it
+pub write-read : (core : Core) (h frame : ℕ) {initialised named : Bool} {k : Controller} {m : Mailbox}
+    → core .initialised ≡ initialised → named ≡ names-pool core h → k ≡ controller-of core h → m ≡ mailbox-at (core .mailboxes) (free-member core h)
+    → (first-reason (sending-checks initialised named) then frame then first-reason (free-checks k m)) ≡ write-reason core h frame
+write-read core h frame started named k m = rw (← started, named, k, m)

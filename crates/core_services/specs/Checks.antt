@@ -26,9 +26,9 @@ any-started modes count = not (all-below count (λ c. not (eqb (getD modes c UNI
 abbrev pub deinit-checks : Bool → Bool → List Check
 deinit-checks initialised started = CAN-E-TRANSITION if (not initialised || started) ∷ []
 
--- "Write: 5, 2 (not a configured sending object) .."
+-- "Write: 5, 2 (not a configured sending object) ..", where the object names no pool
 abbrev pub sending-checks : Bool → Bool → List Check
-sending-checks initialised sending = CAN-E-UNINIT if not initialised ∷ CAN-E-PARAM-HANDLE if not sending ∷ []
+sending-checks initialised named = CAN-E-UNINIT if not initialised ∷ CAN-E-PARAM-HANDLE if not named ∷ []
 
 -- ".. 35, 36."
 abbrev pub free-checks : Controller → Mailbox → List Check

@@ -4,6 +4,7 @@ pub mod deinit;
 pub mod get_controller_mode;
 pub mod in_use;
 pub mod number;
+pub mod pool;
 pub mod report;
 pub mod set_controller_mode;
 pub mod write;

@@ -1,45 +1,47 @@
-// Write, but for the frame: takes it into a sending object, where it waits to be sent.
+// Write, but for the frame: takes it into a member of a pool of sending objects, where it waits to be sent.
 ghost use mathlib.Core.Path.{_≡_};
-ghost use mathlib.Core.Bool.{not, _&&_};
-ghost use Prim.Native.Nat.{_≤_};
-ghost use lib.Dec.{ltb};
+ghost use Prim.Native.Nat.{_≤_, _^_};
 ghost use lib.ListN.{length};
 ghost use Rattle.rules.specs.Reason.{first-reason, _then_};
 ghost use Rattle.rules.specs.Core.{Core};
 ghost use Rattle.rules.specs.Services as rules;
-ghost use Rattle.core_places.specs.View.{view-owner, view-controller, view-mailbox};
-ghost use Rattle.core_places.specs.Arrays.{Alike, controllers-in, owners-in, mailboxes-in};
+ghost use Rattle.core_places.specs.View.{view-controller, view-mailbox};
+ghost use Rattle.core_places.specs.Arrays.{Alike, controllers-in, mailboxes-in};
 ghost use Rattle.core_places.specs.Held.{Held};
+ghost use Rattle.core_places.specs.Pools.{Pooled};
 ghost use Rattle.core_answers.specs.Answer.{verdict-reason};
+ghost use Rattle.core_answers.specs.Reply.{write-reason, write-answer};
 ghost use Rattle.core_services.specs.Checks.{sending-checks, free-checks};
 ghost use Rattle.core_services.specs.WriteTaken.{WriteTaken};
+use crate::pool::free_member;
+use crate::pool::names_pool;
 use core_answers::rejection::Rejection;
+use core_answers::reply::WriteReply;
 use core_answers::verdict::Verdict;
 use core_answers::verdict::then;
 use core_places::at::controller_at;
 use core_places::at::mailbox_at;
-use core_places::at::owner_at;
+use core_places::at::number_at;
 use core_places::controller::Controller;
 use core_places::controller::STARTED;
 use core_places::mailbox::Mailbox;
-use core_places::owner::Owner;
 use core_places::store::set_mailbox;
 
-// Reasons 5 and 2: the driver is initialised, and the object is in use and a sending one.
-fn judge_sending(initialised: bool, sending: bool) -> Verdict
-    ensures { λ r. ⌜ verdict-reason r ≡ first-reason (sending-checks initialised sending) ⌝ }
+// Reasons 5 and 2: the driver is initialised, and the object names a pool.
+fn judge_sending(initialised: bool, named: bool) -> Verdict
+    ensures { λ r. ⌜ verdict-reason r ≡ first-reason (sending-checks initialised named) ⌝ }
 {
     if !initialised {
         return Verdict::Rejected(Rejection::Uninit);
     }
-    if sending {
+    if named {
         Verdict::Accepted
     } else {
         Verdict::Rejected(Rejection::ParamHandle)
     }
 }
 
-// Reasons 35 and 36: the object's controller is STARTED, and no frame waits in the object.
+// Reasons 35 and 36: the controller is STARTED, and no frame waits in the mailbox.
 fn judge_free(k: Controller, m: Mailbox) -> Verdict
     ensures { λ r. ⌜ verdict-reason r ≡ first-reason (free-checks (view-controller k) (view-mailbox m)) ⌝ }
 {
@@ -53,22 +55,18 @@ fn judge_free(k: Controller, m: Mailbox) -> Verdict
     }
 }
 
-// All reasons of Write to object h: of its owner o, the frame, the owner's controller k and the object's mailbox m.
+// All reasons of Write to an object: whether it names a pool, the frame, the controller k and the mailbox m of the free member.
 pub fn judge_write(
     initialised: bool,
-    object_count: usize,
-    h: usize,
-    o: Owner,
+    named: bool,
     k: Controller,
     m: Mailbox,
     frame: Verdict,
 ) -> Verdict
     ensures { λ r. ⌜ verdict-reason r
-        ≡ first-reason (sending-checks initialised (ltb h «object_count» && not (view-owner o .receiving)))
-        then verdict-reason frame
-        then first-reason (free-checks (view-controller k) (view-mailbox m)) ⌝ }
+        ≡ first-reason (sending-checks initialised named) then verdict-reason frame then first-reason (free-checks (view-controller k) (view-mailbox m)) ⌝ }
 {
-    let sending = judge_sending(initialised, (h < object_count) & !o.receiving);
+    let sending = judge_sending(initialised, named);
     then(sending, then(frame, judge_free(k, m)))
 }
 
@@ -83,8 +81,51 @@ pub fn written_mailbox() -> Mailbox
     }
 }
 
-// Has the object wait to be sent, where neither the gate nor the frame is refused and the object can take a frame. The caller lays the
-// frame down and reports a refusal.
+// Has the lowest free member of the object's pool wait to be sent, where the frame is not refused and the pool can take it; behind the gate.
+fn take_open(
+    frame: Verdict,
+    initialised: bool,
+    object_count: usize,
+    modes: &[u8],
+    requests: &[u8],
+    marks: &[bool],
+    owners: &[u8],
+    receivings: &[bool],
+    pools: &[u8],
+    pendings: &mut [bool],
+    dones: &mut [bool],
+    fulls: &mut [bool],
+    object: u32,
+) -> WriteReply
+    requires { ⌜ Alike (now modes) (now requests) (now marks) × Alike (now pools) (now receivings) (now pendings)
+        × Alike (now pendings) (now dones) (now fulls) × («object_count» ≤ length (now pools)) × (length (now pools) ≤ 2 ^ 32) ⌝ }
+    ensures { λ r. ⌜ ((core : Core)
+        → Held core initialised «object_count» (now (owners .entry)) (now (receivings .entry))
+        (controllers-in (now (modes .entry)) (now (requests .entry)) (now (marks .entry)))
+        (mailboxes-in (now (pendings .entry)) (now (dones .entry)) (now (fulls .entry)))
+        → Pooled (core .owners) (now (pools .entry))
+        → WriteTaken core object 0 (verdict-reason frame) (write-reason r) (write-answer r)
+        (mailboxes-in (now (pendings .exit)) (now (dones .exit)) (now (fulls .exit)))) ⌝ }
+{
+    let h = object as usize;
+    let owner = number_at(owners, h);
+    let pool = number_at(pools, h);
+    let k = controller_at(modes, requests, marks, owner as usize);
+    let named = names_pool(receivings, pools, object_count, h);
+    let member = free_member(receivings, pools, pendings, object_count, pool, h);
+    let m = mailbox_at(pendings, dones, fulls, member);
+    let verdict = judge_write(initialised, named, k, m, frame);
+    match verdict {
+        Verdict::Accepted => {
+            set_mailbox(pendings, dones, fulls, member, written_mailbox());
+            WriteReply::TakenBy(member as u32)
+        }
+        Verdict::Rejected(r) => WriteReply::Rejected(r),
+    }
+}
+
+// The same behind the gate's verdict: nothing is looked at where the gate refuses. The caller lays the frame down in the object that took it,
+// and reports a refusal.
 pub fn take_write(
     gate: Verdict,
     frame: Verdict,
@@ -95,33 +136,38 @@ pub fn take_write(
     marks: &[bool],
     owners: &[u8],
     receivings: &[bool],
+    pools: &[u8],
     pendings: &mut [bool],
     dones: &mut [bool],
     fulls: &mut [bool],
     object: u32,
-) -> Verdict
-    requires { ⌜ Alike (now modes) (now requests) (now marks) × (length (now receivings) ≡ length (now owners))
-        × Alike (now pendings) (now dones) (now fulls) × (verdict-reason gate ≡ 0 → «object_count» ≤ length (now pendings)) ⌝ }
+) -> WriteReply
+    requires { ⌜ Alike (now modes) (now requests) (now marks) × Alike (now pools) (now receivings) (now pendings)
+        × Alike (now pendings) (now dones) (now fulls) × (length (now pools) ≤ 2 ^ 32) × (verdict-reason gate ≡ 0 → «object_count» ≤ length (now pools)) ⌝ }
     ensures { λ r. ⌜ ((core : Core)
-        → Held core initialised «object_count» (owners-in (now (owners .entry)) (now (receivings .entry)))
+        → Held core initialised «object_count» (now (owners .entry)) (now (receivings .entry))
         (controllers-in (now (modes .entry)) (now (requests .entry)) (now (marks .entry)))
         (mailboxes-in (now (pendings .entry)) (now (dones .entry)) (now (fulls .entry)))
-        → WriteTaken core object (verdict-reason gate) (verdict-reason frame) (verdict-reason r)
+        → Pooled (core .owners) (now (pools .entry))
+        → WriteTaken core object (verdict-reason gate) (verdict-reason frame) (write-reason r) (write-answer r)
         (mailboxes-in (now (pendings .exit)) (now (dones .exit)) (now (fulls .exit)))) ⌝ }
 {
-    let h = object as usize;
-    let o = owner_at(owners, receivings, h);
-    let k = controller_at(modes, requests, marks, o.controller as usize);
-    let m = mailbox_at(pendings, dones, fulls, h);
-    let verdict = then(
-        gate,
-        judge_write(initialised, object_count, h, o, k, m, frame),
-    );
-    match verdict {
-        Verdict::Accepted => {
-            set_mailbox(pendings, dones, fulls, h, written_mailbox());
-            Verdict::Accepted
-        }
-        Verdict::Rejected(r) => Verdict::Rejected(r),
+    match gate {
+        Verdict::Accepted => take_open(
+            frame,
+            initialised,
+            object_count,
+            modes,
+            requests,
+            marks,
+            owners,
+            receivings,
+            pools,
+            pendings,
+            dones,
+            fulls,
+            object,
+        ),
+        Verdict::Rejected(r) => WriteReply::Rejected(r),
     }
 }

@@ -112,10 +112,10 @@ sweep-begins visit size two owners ram count from p d f before =
 
 -- owners by the number of the controller alone
 abbrev pub owned-by : List ℕ → List Owner
-owned-by controllers = map (λ c. record { controller = c; receiving = false }) controllers
+owned-by controllers = map (λ c. record { controller = c; receiving = false; pool = 0 }) controllers
 
 pub owned-is : (controllers : List ℕ) → Owned (owned-by controllers) controllers
-owned-is controllers h = ap (λ (o : Owner). o .controller) (List·getD-map (λ c. record { controller = c; receiving = false }) controllers h 0)
+owned-is controllers h = ap (λ (o : Owner). o .controller) (List·getD-map (λ c. record { controller = c; receiving = false; pool = 0 }) controllers h 0)
 
 module _ {visit : declared.Visit} {size : ℕ} {two : Bool} {owners ram : List ℕ} {count from : ℕ} {p₀ d₀ f₀ : List Bool} {before : List ℕ} {p d f : List Bool} {sheet : List ℕ} {told h : ℕ}
     (s : Sweeping visit size two owners ram count from p₀ d₀ f₀ before p d f sheet told h)

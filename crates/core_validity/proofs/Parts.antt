@@ -10,13 +10,14 @@ use lib.Dec.{eqb, ltb, leb}
 use borrow.Author.Tests.{ltb-true, ltb-false, le-leb, lt-leb, leb-true, eq-eqb, eqb-true}
 use Rattle.rules.specs.Mode.{STARTED}
 use Rattle.rules.specs.Repeat.{all-below}
-use Rattle.rules.specs.Core.{Controller, Owner, Mailbox, Core, core-valid, has-places, owners-valid, controller-place-valid, mailbox-place-valid, owner-at, mailbox-at, controller-at, controller-of, is-started, controller-valid, controller-idle, owner-valid, owner-unused, mailbox-valid, mailbox-empty}
-use Rattle.laws.proofs.Tests.{both, left, right, decide}
+use Rattle.rules.specs.Core.{Controller, Owner, Mailbox, Core, core-valid, has-places, owner-place-valid, controller-place-valid, mailbox-place-valid, owner-at, mailbox-at, controller-at, controller-of, is-started, controller-valid, controller-idle, owner-valid, owner-unused, mailbox-valid, mailbox-empty}
+use Rattle.laws.proofs.Tests.{both, left, right, decide, same-truth, under}
 use Rattle.laws.proofs.Repeat.{all-facts, facts-all}
-use Rattle.core_places.specs.Arrays.{controllers-in, owners-in, mailboxes-in, core-in}
-use Rattle.core_places.proofs.Laws.{zip-length, zip-3-length, controller-seen, owner-seen, mailbox-seen}
+use Rattle.core_places.specs.Arrays.{Alike, controllers-in, owners-in, mailboxes-in, core-in}
+use Rattle.core_places.proofs.Laws.{zip-3-length, controller-seen, owner-seen, mailbox-seen}
 use Rattle.core_validity.specs.Arrays.{limits-of, Places}
 use Rattle.core_validity.specs.Tests.{counts-suit, controllers-valid, controllers-idle, objects-valid, objects-unused, waiting-started}
+use Rattle.core_validity.specs.Pools.{pools-valid}
 use Rattle.core_validity.proofs.Laws.{and-pairs, all-below-ext, all-below-and, by-use, by-count}
 
 -- An owner is a byte: it is below the count if it is at most the largest byte below the count.
@@ -26,17 +27,6 @@ byte-below o count some byte = go (ltb o count) refl
     go : (b : Bool) → ltb o count ≡ b → leb o (min (count - 1) 255) ≡ b
     go true e = let l = ltb-true o count e in le-leb o (min (count - 1) 255) (omega arith)
     go false e = let l = ltb-false o count e in lt-leb o (min (count - 1) 255) (omega arith)
-
--- Tests that imply each other are one.
-same-truth : (a b : Bool) → (a ≡ true → b ≡ true) → (b ≡ true → a ≡ true) → a ≡ b
-same-truth true b f g = sym (f refl)
-same-truth false true f g = g refl
-same-truth false false f g = refl
-
--- What has to agree only where a holds.
-under : (a : Bool) {b c : Bool} → (a ≡ true → b ≡ c) → (a && b) ≡ (a && c)
-under true f = f refl
-under false f = refl
 
 -- A frame waits only for a STARTED controller, asked of the objects and asked of the controllers.
 module _ (count n : ℕ) (started waits : ℕ → Bool) (owner : ℕ → ℕ) (named : (h : ℕ) → h < count → owner h < n) where
@@ -89,6 +79,11 @@ mailbox-parts receiving started m = go receiving started (m .tx-pending) (not (m
     go false true true a b = sym (and-true (a && b))
     go false false true a b = sym (and-false (a && b))
 
+-- The test of the pools may stand last.
+pooled-last : (owned pooled controllers mailboxes : Bool) → (owned && pooled && controllers && mailboxes) ≡ (owned && controllers && mailboxes && pooled)
+pooled-last owned true controllers mailboxes = rw (and-true owned) (sym (and-true (owned && controllers && mailboxes)))
+pooled-last owned false controllers mailboxes = rw (and-false owned) (sym (and-false (owned && controllers && mailboxes)))
+
 -- The tests of owners, controllers and mailboxes, grouped by what is in use.
 regrouped : (owners controllers mailboxes a b c d : Bool) → (owners && mailboxes) ≡ (b && d) → controllers ≡ (a && c)
     → (owners && controllers && mailboxes) ≡ (a && b && (c && d))
@@ -96,19 +91,22 @@ regrouped owners controllers mailboxes a b c d e f =
     and-assoc owners controllers mailboxes ∙ ap (λ (t : Bool). owners && t) (and-comm controllers mailboxes) ∙ sym (and-assoc owners mailboxes controllers)
     ∙ rw (e, f) (and-comm (b && d) (a && c) ∙ and-pairs a c b d)
 
-module _ (initialised : Bool) (controller-count object-count : ℕ) (modes requests : List ℕ) (marks : List Bool) (owners : List ℕ)
-    (receivings pendings dones fulls : List Bool) (places : Places modes requests marks owners receivings pendings dones fulls) where
+module _ (initialised : Bool) (controller-count object-count : ℕ) (modes requests : List ℕ) (marks : List Bool) (owners : List ℕ) (receivings : List Bool) (pools : List ℕ)
+    (pendings dones fulls : List Bool) (places : Places modes requests marks owners receivings pools pendings dones fulls) where
   abbrev ks : List Controller
   ks = controllers-in modes requests marks
 
   abbrev os : List Owner
-  os = owners-in owners receivings
+  os = owners-in owners receivings pools
+
+  alike : Alike owners receivings pools
+  alike = record { second = places .objects .kinds; third = places .pooled }
 
   abbrev ms : List Mailbox
   ms = mailboxes-in pendings dones fulls
 
   abbrev core : Core
-  core = core-in initialised controller-count object-count modes requests marks owners receivings pendings dones fulls
+  core = core-in initialised controller-count object-count modes requests marks owners receivings pools pendings dones fulls
 
   abbrev counts : Bool
   counts = counts-suit (limits-of (length modes) (length owners)) initialised controller-count object-count
@@ -127,9 +125,8 @@ module _ (initialised : Bool) (controller-count object-count : ℕ) (modes reque
 
   all-places : has-places (limits-of (length modes) (length owners)) core ≡ true
   all-places =
-      let kinds = places .objects .kinds in
       let boxes = zip-3-length _ pendings dones fulls (places .objects .flags) ∙ places .objects .boxes in
-      both (both (eq-eqb _ _ (zip-3-length _ modes requests marks (places .controllers))) (eq-eqb _ _ (zip-length _ owners receivings kinds))) (eq-eqb _ _ boxes)
+      both (both (eq-eqb _ _ (zip-3-length _ modes requests marks (places .controllers))) (eq-eqb _ _ (zip-3-length _ owners receivings pools alike))) (eq-eqb _ _ boxes)
 
   controllers-parts : controller-count ≤ length modes
       → all-below (length modes) (controller-place-valid core) ≡ (controllers-valid ks controller-count && controllers-idle ks controller-count)
@@ -138,10 +135,10 @@ module _ (initialised : Bool) (controller-count object-count : ℕ) (modes reque
       (by-count controller-count (λ c. controller-idle (controller-at ks c)) (length modes) (λ c. controller-valid (controller-at ks c)) l)
 
   objects-parts : object-count ≤ length owners
-      → (owners-valid (limits-of (length modes) (length owners)) controller-count object-count os && all-below (length owners) (mailbox-place-valid core))
+      → (all-below (length owners) (owner-place-valid controller-count object-count os) && all-below (length owners) (mailbox-place-valid core))
       ≡ (all-below object-count object-in-use && objects-unused os ms object-count)
   objects-parts l =
-      rw (zip-length _ owners receivings (places .objects .kinds))
+      rw (zip-3-length _ owners receivings pools alike)
       (sym
       (by-use (length owners) object-count (λ h. owner-valid controller-count (owner-at os h))
       (λ h. mailbox-valid (owner-at os h .receiving) (is-started (controller-of core h)) (mailbox-at ms h)) (λ h. owner-unused (owner-at os h))
@@ -150,35 +147,44 @@ module _ (initialised : Bool) (controller-count object-count : ℕ) (modes reque
 
   -- What is in use, and what is not.
   by-places : counts ≡ true → controller-count ≤ length modes → object-count ≤ length owners
-      → test ≡ (controllers-valid ks controller-count && all-below object-count object-in-use && (controllers-idle ks controller-count && objects-unused os ms object-count))
+      → test
+      ≡ (controllers-valid ks controller-count && all-below object-count object-in-use && (controllers-idle ks controller-count && objects-unused os ms object-count)
+      && pools-valid (length owners) os object-count)
   unfolding core-valid
   by-places e c o =
-      rw (all-places, e) (regrouped (owners-valid (limits-of (length modes) (length owners)) controller-count object-count os) (all-below (length modes) (controller-place-valid core))
-      (all-below (length owners) (mailbox-place-valid core)) (controllers-valid ks controller-count) (all-below object-count object-in-use)
-      (controllers-idle ks controller-count) (objects-unused os ms object-count) (objects-parts o) (controllers-parts c))
+      let owned = all-below (length owners) (owner-place-valid controller-count object-count os) in
+      let controls = all-below (length modes) (controller-place-valid core) in
+      let boxes = all-below (length owners) (mailbox-place-valid core) in
+      let pooled = pools-valid (length owners) os object-count in
+      rw (all-places, e)
+      (pooled-last owned pooled controls boxes
+      ∙ ap (λ (b : Bool). b && pooled)
+      (regrouped owned controls boxes (controllers-valid ks controller-count) (all-below object-count object-in-use)
+      (controllers-idle ks controller-count) (objects-unused os ms object-count) (objects-parts o) (controllers-parts c)))
 
   -- an object in use, as far as it shows itself
   abbrev alone : ℕ → Bool
-  alone h = owner-valid controller-count (owner-at os h) && mailbox-valid (owner-at os h .receiving) true (mailbox-at ms h)
+  alone h = ltb (getD owners h 0) controller-count && mailbox-valid (getD receivings h false) true (mailbox-at ms h)
 
   abbrev waits-rightly : ℕ → Bool
   waits-rightly h = not (getD pendings h false) || eqb (getD modes (getD owners h 0) 0) STARTED
 
   object-parts : (h : ℕ) → object-in-use h ≡ (alone h && waits-rightly h)
   object-parts h =
-      let owner = owner-at os h in
+      let named = ltb (getD owners h 0) controller-count in
       let box = mailbox-at ms h in
-      let started = is-started (controller-of core h) in
+      let started = is-started (controller-at ks (getD owners h 0)) in
       let seen : (not (box .tx-pending) || started) ≡ waits-rightly h =
-      rw (mailbox-seen pendings dones fulls h (places .objects .flags), owner-seen owners receivings h (places .objects .kinds), controller-seen modes requests marks (getD owners h 0) (places .controllers))
+      rw (mailbox-seen pendings dones fulls h (places .objects .flags), controller-seen modes requests marks (getD owners h 0) (places .controllers))
       in
-      ap (λ (b : Bool). owner-valid controller-count owner && b) (mailbox-parts (owner .receiving) started box)
-      ∙ sym (and-assoc (owner-valid controller-count owner) (mailbox-valid (owner .receiving) true box) (not (box .tx-pending) || started))
-      ∙ ap (λ (b : Bool). alone h && b) seen
+      rw (owner-seen owners receivings pools h alike)
+      (ap (λ (b : Bool). named && b) (mailbox-parts (getD receivings h false) started box)
+      ∙ sym (and-assoc named (mailbox-valid (getD receivings h false) true box) (not (box .tx-pending) || started))
+      ∙ ap (λ (b : Bool). alone h && b) seen)
 
   waiting-parts : ((h : ℕ) → getD owners h 0 < 256)
       → all-below object-count object-in-use
-      ≡ (objects-valid controller-count os ms object-count && waiting-started (min controller-count 256) modes owners pendings object-count)
+      ≡ (objects-valid controller-count owners receivings ms object-count && waiting-started (min controller-count 256) modes owners pendings object-count)
   waiting-parts byte =
       all-below-ext object-count object-in-use (λ h. alone h && waits-rightly h) (λ h l. object-parts h)
       ∙ sym (all-below-and object-count alone waits-rightly)
@@ -187,15 +193,15 @@ module _ (initialised : Bool) (controller-count object-count : ℕ) (modes reque
       sym
       (by-owner object-count (min controller-count 256) (λ c. eqb (getD modes c 0) STARTED) (λ h. getD pendings h false) (λ h. getD owners h 0)
       (λ h l.
-      let fact = left (owner-valid controller-count (owner-at os h)) (mailbox-valid (owner-at os h .receiving) true (mailbox-at ms h)) (all-facts object-count alone e h l) in
-      let below : ltb (getD owners h 0) controller-count ≡ true = rw (owner-seen owners receivings h (places .objects .kinds)) at fact in
+      let below = left (ltb (getD owners h 0) controller-count) (mailbox-valid (getD receivings h false) true (mailbox-at ms h)) (all-facts object-count alone e h l) in
       omega (arith, ltb-true (getD owners h 0) controller-count below, byte h))))
 
   -- After initialisation the places in use are tested, and the others are at rest.
   pub initialised-parts : counts ≡ true → controller-count ≤ length modes → object-count ≤ length owners → ((h : ℕ) → getD owners h 0 < 256)
       → (controllers-valid ks controller-count
-      && (objects-valid controller-count os ms object-count && waiting-started (min controller-count 256) modes owners pendings object-count)
-      && (controllers-idle ks controller-count && objects-unused os ms object-count))
+      && (objects-valid controller-count owners receivings ms object-count && waiting-started (min controller-count 256) modes owners pendings object-count)
+      && (controllers-idle ks controller-count && objects-unused os ms object-count)
+      && pools-valid (length owners) os object-count)
       ≡ test
   initialised-parts e c o byte = sym (by-places e c o ∙ rw (waiting-parts byte))
 
@@ -206,7 +212,8 @@ module _ (initialised : Bool) (controller-count object-count : ℕ) (modes reque
   uninitialised-parts e c o =
       let no-controllers : controllers-valid ks controller-count ≡ true = ap (λ (n : ℕ). controllers-valid ks n) c in
       let no-objects : all-below object-count object-in-use ≡ true = ap (λ (n : ℕ). all-below n object-in-use) o in
-      sym (by-places e (omega arith) (omega arith) ∙ rw (no-controllers, no-objects))
+      let no-pools : pools-valid (length owners) os object-count ≡ true = ap (λ (n : ℕ). pools-valid (length owners) os n) o in
+      sym (by-places e (omega arith) (omega arith) ∙ rw (no-controllers, no-objects, no-pools) (and-true (controllers-idle ks controller-count && objects-unused os ms object-count)))
 
 -- What the counts say of the places.
 module _ (n m controller-count object-count : ℕ) (initialised : Bool) (suit : counts-suit (limits-of n m) initialised controller-count object-count ≡ true) where

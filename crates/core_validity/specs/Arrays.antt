@@ -18,6 +18,7 @@ pub record Objects (owners : List ℕ) (receivings pendings dones fulls : List B
   pub flags : Alike pendings dones fulls
 
 -- and so do those of controllers
-pub record Places (modes requests : List ℕ) (marks : List Bool) (owners : List ℕ) (receivings pendings dones fulls : List Bool) : Type 0 where
+pub record Places (modes requests : List ℕ) (marks : List Bool) (owners : List ℕ) (receivings : List Bool) (pools : List ℕ) (pendings dones fulls : List Bool) : Type 0 where
   pub controllers : Alike modes requests marks
+  pub pooled : length pools ≡ length owners
   pub objects : Objects owners receivings pendings dones fulls

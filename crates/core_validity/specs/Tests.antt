@@ -7,7 +7,7 @@ use lib.Dec.{eqb, ltb}
 use Rattle.rules.specs.Limits.{Limits}
 use Rattle.rules.specs.Mode.{STARTED}
 use Rattle.rules.specs.Repeat.{all-below}
-use Rattle.rules.specs.Core.{Controller, Owner, Mailbox, controller-at, owner-at, mailbox-at, controller-valid, controller-idle, owner-valid, owner-unused, mailbox-valid, mailbox-empty, counts-valid}
+use Rattle.rules.specs.Core.{Controller, Owner, Mailbox, controller-at, owner-at, mailbox-at, controller-valid, controller-idle, owner-unused, mailbox-valid, mailbox-empty, counts-valid}
 
 -- p holds of every place below n but the first ones, so many as the count says
 abbrev pub all-from : ℕ → ℕ → (ℕ → Bool) → Bool
@@ -27,9 +27,9 @@ abbrev pub controllers-idle : List Controller → ℕ → Bool
 controllers-idle ks count = all-from (length ks) count (λ c. controller-idle (controller-at ks c))
 
 -- each object in use names a controller in use, and its mailbox would be valid if that were STARTED
-abbrev pub objects-valid : ℕ → List Owner → List Mailbox → ℕ → Bool
-objects-valid controller-count os ms count =
-    all-below count (λ h. owner-valid controller-count (owner-at os h) && mailbox-valid (owner-at os h .receiving) true (mailbox-at ms h))
+abbrev pub objects-valid : ℕ → List ℕ → List Bool → List Mailbox → ℕ → Bool
+objects-valid controller-count owners receivings ms count =
+    all-below count (λ h. ltb (getD owners h 0) controller-count && mailbox-valid (getD receivings h false) true (mailbox-at ms h))
 
 -- each other object is at rest
 abbrev pub objects-unused : List Owner → List Mailbox → ℕ → Bool

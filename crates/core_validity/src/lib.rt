@@ -2,5 +2,6 @@
 mod controllers;
 pub mod counts;
 mod objects;
+pub mod pools;
 pub mod validity;
 mod waiting;

@@ -25,7 +25,7 @@ pub fn objects_valid(
 ) -> bool
     requires { ⌜ Objects (now owners) (now receivings) (now pendings) (now dones) (now fulls) × (count ≤ length (now owners)) × (1 ≤ «controller_count») ⌝ }
     ensures { λ r. ⌜ r
-        ≡ tests.objects-valid «controller_count» (owners-in (now (owners .entry)) (now (receivings .entry)))
+        ≡ tests.objects-valid «controller_count» (now (owners .entry)) (now (receivings .entry))
         (mailboxes-in (now (pendings .entry)) (now (dones .entry)) (now (fulls .entry))) count ⌝ }
 {
     let last = limited(controller_count - 1, 255) as u8;
@@ -46,14 +46,15 @@ pub fn objects_valid(
 pub fn objects_unused(
     owners: &[u8],
     receivings: &[bool],
+    pools: &[u8],
     pendings: &[bool],
     dones: &[bool],
     fulls: &[bool],
     count: usize,
 ) -> bool
-    requires { ⌜ Objects (now owners) (now receivings) (now pendings) (now dones) (now fulls) × (count ≤ length (now owners)) ⌝ }
+    requires { ⌜ Objects (now owners) (now receivings) (now pendings) (now dones) (now fulls) × (length (now pools) ≡ length (now owners)) × (count ≤ length (now owners)) ⌝ }
     ensures { λ r. ⌜ r
-        ≡ tests.objects-unused (owners-in (now (owners .entry)) (now (receivings .entry)))
+        ≡ tests.objects-unused (owners-in (now (owners .entry)) (now (receivings .entry)) (now (pools .entry)))
         (mailboxes-in (now (pendings .entry)) (now (dones .entry)) (now (fulls .entry))) count ⌝ }
 {
     let mut ok = true;
@@ -61,6 +62,7 @@ pub fn objects_unused(
         let o = Owner {
             controller: owners[h],
             receiving: receivings[h],
+            pool: pools[h],
         };
         let m = Mailbox {
             tx_pending: pendings[h],

@@ -1,17 +1,22 @@
 // When a core is valid.
 ghost use mathlib.Core.Path.{_≡_};
+ghost use mathlib.Core.List.{List};
+ghost use Prim.Native.Nat.{ℕ, min};
 ghost use lib.ListN.{length};
 ghost use Rattle.rules.specs.Core as rules;
 ghost use Rattle.core_places.specs.Arrays.{core-in};
 ghost use Rattle.core_validity.specs.Arrays.{limits-of, Places};
+ghost use Rattle.core_validity.specs.Pools.{Tabled};
 use crate::controllers::controllers_idle;
 use crate::controllers::controllers_valid;
 use crate::counts::counts_suit;
 use crate::objects::objects_unused;
 use crate::objects::objects_valid;
+use crate::pools::pools_valid;
 use crate::waiting::waiting_started;
 
-// Whether the core is one that the driver can be in, where there are as many places as the arrays have.
+// Whether the core is one that the driver can be in, where there are as many places as the arrays have. The table holds the lowest member of
+// each pool among the objects in use.
 pub fn core_valid(
     initialised: bool,
     controller_count: usize,
@@ -21,15 +26,19 @@ pub fn core_valid(
     marks: &[bool],
     owners: &[u8],
     receivings: &[bool],
+    pools: &[u8],
     pendings: &[bool],
     dones: &[bool],
     fulls: &[bool],
+    table: &[usize],
 ) -> bool
-    requires { ⌜ Places (now modes) (now requests) (now marks) (now owners) (now receivings) (now pendings) (now dones) (now fulls) ⌝ }
-    ensures { λ r. ⌜ r
+    requires { ⌜ Places (now modes) (now requests) (now marks) (now owners) (now receivings) (now pools) (now pendings) (now dones) (now fulls)
+        × (length (now table) ≡ length (now owners)) ⌝ }
+    ensures { λ r. ⌜ ((before : List ℕ) → Tabled (now (receivings .entry)) (now (pools .entry)) (min «object_count» (length (now (pools .entry)))) before (now (table .entry))
+        → r
         ≡ rules.core-valid (limits-of (length (now (modes .entry))) (length (now (owners .entry))))
         (core-in initialised «controller_count» «object_count» (now (modes .entry)) (now (requests .entry)) (now (marks .entry)) (now (owners .entry))
-        (now (receivings .entry)) (now (pendings .entry)) (now (dones .entry)) (now (fulls .entry))) ⌝ }
+        (now (receivings .entry)) (now (pools .entry)) (now (pendings .entry)) (now (dones .entry)) (now (fulls .entry)))) ⌝ }
 {
     let counts = counts_suit(
         modes.len(),
@@ -42,7 +51,15 @@ pub fn core_valid(
         return false;
     }
     let idle = controllers_idle(modes, requests, marks, controller_count);
-    let unused = objects_unused(owners, receivings, pendings, dones, fulls, object_count);
+    let unused = objects_unused(
+        owners,
+        receivings,
+        pools,
+        pendings,
+        dones,
+        fulls,
+        object_count,
+    );
     if !initialised {
         return idle & unused;
     }
@@ -57,5 +74,6 @@ pub fn core_valid(
         object_count,
     );
     let waiting = waiting_started(controller_count, modes, owners, pendings, object_count);
-    controllers & (objects & waiting) & (idle & unused)
+    let pooled = pools_valid(owners, receivings, pools, table, object_count);
+    controllers & (objects & waiting) & (idle & unused) & pooled
 }

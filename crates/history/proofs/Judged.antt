@@ -11,7 +11,7 @@ use Rattle.rules.specs.Limits.{Limits}
 use Rattle.rules.specs.Format.{Format}
 use Rattle.rules.specs.Reason.{E-OK, first-reason, _then_}
 use Rattle.rules.specs.Notification.{Notification, data-lost}
-use Rattle.rules.specs.Core.{Core, controller-at, with-controllers, with-mailboxes}
+use Rattle.rules.specs.Core.{Core, controller-at, with-controllers, with-mailboxes, free-member}
 use Rattle.rules.specs.Configuration.{configuration-of}
 use Rattle.rules.specs.State.{State, with-core, initial-state}
 use Rattle.rules.specs.Outcome.{Outcome, Answer, no-answer, mode, taken-by, unwanted, lost, rejected, accepted, judged, lifted, state-gate, sheet-gate, full-gate}
@@ -89,7 +89,7 @@ module _ (L : Limits) (F : Format) where
       }
   judgement (Write sheet h handle fits frame) s ram =
       judging (full-gate L F s (length sheet) ram then write-reason (s .core) h (frame-reason L F s h frame))
-      (accepted (taken-by h) (with-core s (taken (s .core) h)) (laid-down L F s ram h handle frame) []) refl
+      (accepted (taken-by (free-member (s .core) h)) (with-core s (taken (s .core) (free-member (s .core) h))) (laid-down L F s ram (free-member (s .core) h) handle frame) []) refl
   judgement (MainFunctionWrite sheet) s ram = judging (full-gate L F s (length sheet) ram) (visits-done s ram (confirmation (L .object-size) ram)) refl
   judgement (MainFunctionRead sheet) s ram = judging (full-gate L F s (length sheet) ram) (visits-done s ram (indication (L .object-size) (L .length-size) ram)) refl
   judgement (MainFunctionMode sheet) s ram = judging (full-gate L F s (length sheet) ram) (turns-done s ram mode-change) refl

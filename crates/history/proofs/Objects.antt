@@ -19,7 +19,7 @@ use Rattle.rules.specs.Repeat.{all-below}
 use Rattle.rules.specs.Bytes.{splice}
 use Rattle.rules.specs.Reason.{first-reason, _then_, reasons-named}
 use Rattle.rules.specs.Notification.{data-lost}
-use Rattle.rules.specs.Core.{Controller, Owner, Mailbox, Core, empty-mailbox, controller-at, owner-at, mailbox-at, mailbox-valid, mailbox-empty, owner-place-valid, is-started, is-sending, controller-of, with-mailboxes}
+use Rattle.rules.specs.Core.{Controller, Owner, Mailbox, Core, empty-mailbox, controller-at, owner-at, mailbox-at, mailbox-valid, mailbox-empty, is-started, is-sending, controller-of, with-mailboxes, free-member}
 use Rattle.rules.specs.Configuration.{Configuration, no-configuration}
 use Rattle.rules.specs.State.{State, with-core, valid, initial-state}
 use Rattle.rules.specs.Outcome.{Outcome, Answer, taken-by, stored-in, unwanted, lost, accepted, full-gate, state-gate}
@@ -37,12 +37,14 @@ use Rattle.history.specs.Operators.{closes}
 use Rattle.laws.proofs.Tests.{left, right, clash, decide, neither, not-true, not-false}
 use Rattle.laws.proofs.Repeat.{all-facts, replicate-default}
 use Rattle.laws.proofs.Reasons.{then-first, then-second, check-passed}
-use Rattle.laws.proofs.Validity.{Valid, core-facts, state-core}
+use Rattle.laws.proofs.Pools.{named, taken-member, member-settings}
+use Rattle.laws.proofs.Validity.{Valid, owners-placed, core-facts, state-core, settings-agree}
 use Rattle.laws.proofs.Changes.{objects-within}
 use Rattle.laws.proofs.Sweeps.{set-default}
 use Rattle.laws.proofs.Objects.{same-bytes-refl, object-laid, object-kept}
 use Rattle.laws.proofs.Acceptance.{WritePassed, gate-passed, write-passed}
-use Rattle.laws.proofs.StaysValid.{initial-valid, own-mailbox, pending-facts, chosen-fits}
+use Rattle.laws.proofs.Choice.{choice-tells}
+use Rattle.laws.proofs.StaysValid.{initial-valid, own-mailbox, pending-facts}
 use Rattle.history.proofs.Judged.{judgement, denied, core-done, visits-done, turns-done, received-cases, performed-cases}
 use Rattle.history.proofs.Notices.{quiet-error, unclosed, after-more, after-unclosed}
 use Rattle.history.proofs.Sweeps.{freed, visits-keep, turns-keep}
@@ -101,8 +103,7 @@ module _ (L : Limits) (core : Core) (v : Valid L core) where
   own-controller-in-use : (h : ℕ) → h < core .object-count → owner-at (core .owners) h .controller < core .controller-count
   own-controller-in-use h l =
       let within = objects-within L core v in
-      ltb-true (owner-at (core .owners) h .controller) (core .controller-count)
-      (rw (lt-ltb h (core .object-count) l) at (all-facts (L .objects) (owner-place-valid (core .controller-count) (core .object-count) (core .owners)) (v .owners) h (omega arith)))
+      ltb-true (owner-at (core .owners) h .controller) (core .controller-count) (rw (lt-ltb h (core .object-count) l) at (owners-placed L core v h (omega arith)))
 
   -- where no controller is STARTED nothing is pending
   none-started-pending : (h : ℕ) → (not (core .initialised) || some-started core) ≡ false → mailbox-at (core .mailboxes) h .tx-pending ≡ false
@@ -283,28 +284,46 @@ module _ (L : Limits) (F : Format) (h : ℕ) where
         let within = objects-within L (s .core) v in
         kept e (laid-in i m bytes answer) (other-set i m d) (object-kept L bytes ram fills whole i (omega arith) h (λ x. d (sym x))) same refl
 
-    -- an accepted write to the object itself opens it
-    own-write : Lawful L F → (handle : ℕ) → handle < 2 ^ 16 → (frame : F .Frame) (answer : Answer) → WritePassed (s .core) h (frame-reason L F s h frame) → length ram ≡ ram-size L
+    -- the member that a write takes: it is in use and free, and the frame fills it
+    record Takes (i handle : ℕ) (frame : F .Frame) : Type 0 where
+      pub in-use : i < s .core .object-count
+      pub free : mailbox-at (s .core .mailboxes) i .tx-pending ≡ false
+      pub fills : length (F .object-bytes (settings-of-object L F s i) handle frame) ≡ L .object-size
+
+    -- an accepted write that the object itself takes opens it
+    own-write : Lawful L F → (handle : ℕ) → handle < 2 ^ 16 → (frame : F .Frame) (answer : Answer) → Takes h handle frame → length ram ≡ ram-size L
         → Agrees (at-object h (written handle frame)) (laid-in h written-mailbox (F .object-bytes (settings-of-object L F s h) handle frame) answer)
     unfolding after-notifications
     own-write lawful handle fits frame answer w whole =
         let settings = settings-of-object L F s h in
         let bytes = F .object-bytes settings handle frame in
         let ram′ = splice (object-start L h) bytes ram in
-        let l = ltb-true h (s .core .object-count) (left (ltb h (s .core .object-count)) (not (owner-at (s .core .owners) h .receiving)) (w .sending)) in
+        let l = w .in-use in
         let within = objects-within L (s .core) v in
-        let laid = object-laid L bytes ram (lawful .written-fills settings handle frame (w .frame-fits)) whole h (omega arith) in
+        let laid = object-laid L bytes ram (w .fills) whole h (omega arith) in
         let a-closed = not-held before (bytes-in ram) a p (w .free) in
         let opened : compared L F h ram′ (held handle bytes false) ≡ held handle bytes false = rw (laid, same-bytes-refl bytes) in
         rw (eq-eqb h h refl, own-set written-mailbox l, a-closed, opened) (refl, refl, laid, lawful .handle-kept settings handle frame fits)
 
-    write-agrees : Lawful L F → (i handle : ℕ) → handle < 2 ^ 16 → (frame : F .Frame) (answer : Answer) → WritePassed (s .core) i (frame-reason L F s i frame) → length ram ≡ ram-size L → Dec (i ≡ h)
+    write-agrees : Lawful L F → (i handle : ℕ) → handle < 2 ^ 16 → (frame : F .Frame) (answer : Answer) → Takes i handle frame → length ram ≡ ram-size L → Dec (i ≡ h)
         → Agrees (at-object i (written handle frame)) (laid-in i written-mailbox (F .object-bytes (settings-of-object L F s i) handle frame) answer)
     write-agrees lawful i handle fits frame answer w whole (yes e) = rw e (own-write lawful handle fits frame answer (rw e at w) whole)
     write-agrees lawful i handle fits frame answer w whole (no d) =
         laid-elsewhere (at-object i (written handle frame)) i written-mailbox (F .object-bytes (settings-of-object L F s i) handle frame) answer d
-        (ltb-true i (s .core .object-count) (left (ltb i (s .core .object-count)) (not (owner-at (s .core .owners) i .receiving)) (w .sending)))
-        (lawful .written-fills (settings-of-object L F s i) handle frame (w .frame-fits)) whole (rw (ne-eqb i h d))
+        (w .in-use) (w .fills) whole (rw (ne-eqb i h d))
+
+    -- the free member of a pool that a write names takes it: its settings agree with those by which the frame was judged
+    member-takes : Lawful L F → valid L F s ≡ true → (i handle : ℕ) (frame : F .Frame) → WritePassed (s .core) i (frame-reason L F s i frame) → Takes (free-member (s .core) i) handle frame
+    member-takes lawful sound i handle frame w =
+        let m = free-member (s .core) i in
+        let n = named (s .core) i (w .pool-named) in
+        let t = taken-member (s .core) i n in
+        let alike = member-settings F (s .core) (s .settings) i m (settings-agree L F s sound) n t in
+        record {
+          in-use = t .in-use;
+          free = w .free;
+          fills = lawful .written-fills (settings-of-object L F s m) handle frame (lawful .carried-alike (settings-of-object L F s m) (settings-of-object L F s i) frame alike (w .frame-fits));
+        }
 
     sent-agrees : (i : ℕ) → is-sending (s .core) i ≡ true → has-unsent (mailbox-at (s .core .mailboxes) i) ≡ true → Dec (i ≡ h)
         → Agrees (at-object i completed) (core-done L F s ram (with-mailboxes (s .core) (set (s .core .mailboxes) i sent-mailbox)) [])
@@ -327,9 +346,9 @@ module _ (L : Limits) (F : Format) (h : ℕ) where
         chosen =
             let o = owner-at (s .core .owners) i in
             let accepts = F .accepts (settings-of-object L F s i) frame in
-            let found = chosen-fits (s .core .object-count) _ _ i e in
-            let fits = left (fits-frame c o accepts) _ (found .1) in
-            (found .0, left (o .receiving) (eqb (o .controller) c) (left (o .receiving && eqb (o .controller) c) accepts fits))
+            let found = choice-tells _ _ (s .core .object-count) (some i) e in
+            let fits = left (fits-frame c o accepts) _ (found .fitting) in
+            (found .below, left (o .receiving) (eqb (o .controller) c) (left (o .receiving && eqb (o .controller) c) accepts fits))
 
         free : (b : Bool) → mailbox-at (s .core .mailboxes) i .tx-pending ≡ b → b ≡ false
         free false q = refl
@@ -377,7 +396,10 @@ module _ (L : Limits) (F : Format) (h : ℕ) where
     done-agrees lawful (Write sheet i handle fits frame) r =
         let gate = full-gate L F s (length sheet) ram in
         let own = write-reason (s .core) i (frame-reason L F s i frame) in
-        write-agrees lawful i handle fits frame (taken-by i) (write-passed (s .core) i (frame-reason L F s i frame) (then-second gate own r)) (gate-passed L F s (length sheet) ram (then-first gate own r) .ram-whole) (ℕ-discrete i h)
+        let m = free-member (s .core) i in
+        let passed = gate-passed L F s (length sheet) ram (then-first gate own r) in
+        let w = write-passed (s .core) i (frame-reason L F s i frame) (then-second gate own r) in
+        write-agrees lawful m handle fits frame (taken-by m) (member-takes lawful (passed .sound) i handle frame w) (passed .ram-whole) (ℕ-discrete m h)
     done-agrees lawful (MainFunctionWrite sheet) r = visits-agree (polling of-writes) _ (confirmation-suits (L .object-size) h ram) refl
     done-agrees lawful (MainFunctionRead sheet) r = visits-agree nothing _ (indication-suits (L .object-size) h ram (L .length-size)) refl
     done-agrees lawful (MainFunctionMode sheet) r = turns-agree (polling of-modes) mode-change (λ c k. refl) refl

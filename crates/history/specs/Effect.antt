@@ -5,7 +5,7 @@ use mathlib.Core.Bool.{cond}
 use mathlib.Core.List.{List}
 use Rattle.rules.specs.Format.{Format}
 use Rattle.rules.specs.State.{State}
-use Rattle.rules.specs.Outcome.{Outcome, Answer, no-answer, mode, taken-by, stored-in, unwanted, lost}
+use Rattle.rules.specs.Outcome.{Outcome, Answer, no-answer, mode, taken-by, stored-in, unwanted, lost, sends-next}
 use Rattle.history.specs.Call.{Call, Init, DeInit, SetControllerMode, GetControllerMode, Write, MainFunctionWrite, MainFunctionRead, MainFunctionMode, MainFunctionBusOff, TxComplete, BusOffDetected, FrameArrived}
 use Rattle.history.specs.Trace.{Step, is-accepted}
 
@@ -40,7 +40,7 @@ pub data Effect (F : Format) : Type 0 where
   polling : Poll → Effect F
 
 module _ (F : Format) where
-  -- a write belongs to the object that its answer names
+  -- 02, Q-2: "a write belongs to the member that it answers"
   abbrev pub written-to : Answer → AtObject F → Effect F
   written-to (taken-by h) x = at-object h x
   written-to no-answer x = nothing
@@ -48,6 +48,7 @@ module _ (F : Format) where
   written-to (stored-in h) x = nothing
   written-to unwanted x = nothing
   written-to lost x = nothing
+  written-to (sends-next o) x = nothing
 
   abbrev pub accepted-effect : Call F → Answer → Effect F
   accepted-effect (Init sheet bytes) answer = configuring (configured bytes)

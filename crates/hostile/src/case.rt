@@ -2,7 +2,7 @@
 //
 //     initialised 1 · controller_count 4 · object_count 4
 //     4 controllers of: mode 1 · requested_mode 1 · bus_off 1
-//     32 objects of: controller 1 · receiving 1 · payload 1 · padding 1 · code 4 · mask 4
+//     32 objects of: controller 1 · receiving 1 · pool 1 · payload 1 · padding 1 · code 4 · mask 4
 //     32 mailboxes of: tx_pending 1 · tx_done 1 · rx_full 1
 //     kind of the call 1 · a 4 · b 4 · c 4 · words of the sheet 4 · bytes of the memory 4
 //     the rest: the call's bytes (a configuration, or the data of a frame)
@@ -27,7 +27,7 @@ pub struct Case {
     pub memory: usize,
 }
 
-// The function of a kind: the services, the polls, the events.
+// The function of a kind: the services, the polls, the events, and who sends next.
 fn function_of(kind: u8) -> Function {
     match kind {
         0 => Function::Init,
@@ -41,7 +41,8 @@ fn function_of(kind: u8) -> Function {
         8 => Function::PollBusOff,
         9 => Function::Sent,
         10 => Function::BusOff,
-        _ => Function::Arrived,
+        11 => Function::Arrived,
+        _ => Function::Next,
     }
 }
 

@@ -1,5 +1,5 @@
 // Numbers at positions of a case, the highest byte first.
-use can_config::bytes::byte_at;
+use core_places::at::number_at;
 use core_places::range::limited;
 
 // The position so many bytes further on.
@@ -15,19 +15,19 @@ pub fn after(bytes: &[u8], at: usize) -> &[u8] {
 
 // A number of four bytes.
 pub fn number(bytes: &[u8], at: usize) -> u32 {
-    let first = byte_at(bytes, at) as u32;
-    let second = byte_at(bytes, further(at, 1)) as u32;
-    let third = byte_at(bytes, further(at, 2)) as u32;
-    let last = byte_at(bytes, further(at, 3)) as u32;
+    let first = number_at(bytes, at) as u32;
+    let second = number_at(bytes, further(at, 1)) as u32;
+    let third = number_at(bytes, further(at, 2)) as u32;
+    let last = number_at(bytes, further(at, 3)) as u32;
     (first << 24) | (second << 16) | (third << 8) | last
 }
 
 // A number of one byte.
 pub fn small(bytes: &[u8], at: usize) -> u8 {
-    byte_at(bytes, at)
+    number_at(bytes, at)
 }
 
 // A byte that is not zero says yes.
 pub fn flag(bytes: &[u8], at: usize) -> bool {
-    byte_at(bytes, at) != 0
+    number_at(bytes, at) != 0
 }

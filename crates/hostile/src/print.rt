@@ -13,6 +13,8 @@ fn answer(out: &mut [u8], at: usize, answer: Answer) -> usize {
         Answer::Stored(h) => numbered(out, at, b" stored:", h as u64),
         Answer::Unwanted => put(out, at, b" unwanted"),
         Answer::Lost => put(out, at, b" lost"),
+        Answer::SendsNext(h) => numbered(out, at, b" ", h as u64),
+        Answer::Nobody => put(out, at, b" none"),
     }
 }
 

@@ -23,7 +23,10 @@ fn controllers(x: State, y: State) -> bool {
 fn owners(x: State, y: State) -> bool {
     let mut same = true;
     for h in 0..OBJECTS {
-        same = same & (x.owners[h] == y.owners[h]) & (x.receivings[h] == y.receivings[h]);
+        same = same
+            & (x.owners[h] == y.owners[h])
+            & (x.receivings[h] == y.receivings[h])
+            & (x.pools[h] == y.pools[h]);
     }
     same
 }

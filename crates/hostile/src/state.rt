@@ -12,7 +12,7 @@ const HEAD: usize = 9;
 
 const CONTROLLER: usize = 3;
 
-const OBJECT: usize = 12;
+const OBJECT: usize = 13;
 
 const MAILBOX: usize = 3;
 
@@ -71,15 +71,18 @@ fn with_controllers(bytes: &[u8], state: State) -> State {
     next
 }
 
-// Controller and kind of every object.
+// Controller, kind and pool of every object.
 fn with_owners(bytes: &[u8], state: State) -> State {
     let mut owners = state.owners;
     let mut receivings = state.receivings;
+    let mut pools = state.pools;
     bytes_of(bytes, OBJECTS_AT, OBJECT, &mut owners);
     flags_of(bytes, OBJECTS_AT + 1, OBJECT, &mut receivings);
+    bytes_of(bytes, OBJECTS_AT + 2, OBJECT, &mut pools);
     let mut next = state;
     next.owners = owners;
     next.receivings = receivings;
+    next.pools = pools;
     next
 }
 
@@ -87,8 +90,8 @@ fn with_owners(bytes: &[u8], state: State) -> State {
 fn with_payloads(bytes: &[u8], state: State) -> State {
     let mut payloads = state.payloads;
     let mut paddings = state.paddings;
-    bytes_of(bytes, OBJECTS_AT + 2, OBJECT, &mut payloads);
-    bytes_of(bytes, OBJECTS_AT + 3, OBJECT, &mut paddings);
+    bytes_of(bytes, OBJECTS_AT + 3, OBJECT, &mut payloads);
+    bytes_of(bytes, OBJECTS_AT + 4, OBJECT, &mut paddings);
     let mut next = state;
     next.payloads = payloads;
     next.paddings = paddings;
@@ -99,8 +102,8 @@ fn with_payloads(bytes: &[u8], state: State) -> State {
 fn with_filters(bytes: &[u8], state: State) -> State {
     let mut codes = state.codes;
     let mut masks = state.masks;
-    numbers_of(bytes, OBJECTS_AT + 4, OBJECT, &mut codes);
-    numbers_of(bytes, OBJECTS_AT + 8, OBJECT, &mut masks);
+    numbers_of(bytes, OBJECTS_AT + 5, OBJECT, &mut codes);
+    numbers_of(bytes, OBJECTS_AT + 9, OBJECT, &mut masks);
     let mut next = state;
     next.codes = codes;
     next.masks = masks;

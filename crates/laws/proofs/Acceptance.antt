@@ -9,9 +9,9 @@ use borrow.Author.Tests.{eqb-true, ltb-false}
 use Rattle.rules.specs.Limits.{Limits, sheet-size, ram-size}
 use Rattle.rules.specs.Format.{Format}
 use Rattle.rules.specs.Reason.{first-reason, _then_, reasons-named}
-use Rattle.rules.specs.Core.{Core, mailbox-at, is-started, is-sending, controller-of}
+use Rattle.rules.specs.Core.{Core, mailbox-at, is-started, controller-of, names-pool, free-member}
 use Rattle.rules.specs.State.{State, valid}
-use Rattle.rules.specs.Outcome.{state-check, sheet-check, ram-check, full-gate}
+use Rattle.rules.specs.Outcome.{state-check, sheet-check, ram-check, full-gate, ram-gate}
 use Rattle.rules.specs.Services.{sending-checks, free-checks, write-reason}
 use Rattle.laws.proofs.Tests.{not-false}
 use Rattle.laws.proofs.Reasons.{then-first, then-second, check-passed}
@@ -31,13 +31,19 @@ gate-passed L F s sheet ram r =
       ram-whole = eqb-true (length ram) (ram-size L) (not-false (eqb (length ram) (ram-size L)) (check-passed 2 gate refl r));
     }
 
+pub ram-gate-passed : (L : Limits) (F : Format) (s : State F) (ram : List ℕ) → ram-gate L F s ram ≡ 0 → (valid L F s ≡ true) × (length ram ≡ ram-size L)
+unfolding ram-gate reasons-named
+ram-gate-passed L F s ram r =
+    let gate = state-check L F s ∷ ram-check L F ram ∷ [] in
+    (not-false (valid L F s) (check-passed 0 gate refl r), eqb-true (length ram) (ram-size L) (not-false (eqb (length ram) (ram-size L)) (check-passed 1 gate refl r)))
+
 -- the tests that a write passes beyond the room for it
 pub record WritePassed (core : Core) (h frame : ℕ) : Type 0 where
   pub initialised : core .initialised ≡ true
-  pub sending : is-sending core h ≡ true
+  pub pool-named : names-pool core h ≡ true
   pub frame-fits : frame ≡ 0
   pub started : is-started (controller-of core h) ≡ true
-  pub free : mailbox-at (core .mailboxes) h .tx-pending ≡ false
+  pub free : mailbox-at (core .mailboxes) (free-member core h) .tx-pending ≡ false
 
 pub write-passed : (core : Core) (h frame : ℕ) → write-reason core h frame ≡ 0 → WritePassed core h frame
 unfolding reasons-named
@@ -49,7 +55,7 @@ write-passed core h frame r =
     let r₃ = then-second frame (first-reason back) r₂ in
     record {
       initialised = not-false (core .initialised) (check-passed 0 front refl r₁);
-      sending = not-false (is-sending core h) (check-passed 1 front refl r₁);
+      pool-named = not-false (names-pool core h) (check-passed 1 front refl r₁);
       frame-fits = then-first frame (first-reason back) r₂;
       started = not-false (is-started (controller-of core h)) (check-passed 0 back refl r₃);
       free = check-passed 1 back refl r₃;

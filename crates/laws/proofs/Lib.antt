@@ -1,9 +1,12 @@
 -- Laws of the rules, for any limits and any lawful format.
 pub mod Tests
 pub mod Repeat
+pub mod Choice
 pub mod Reasons
+pub mod Pools
 pub mod Validity
 pub mod Splices
+pub mod Bytes
 pub mod Objects
 pub mod Sheets
 pub mod Sweeps
@@ -13,3 +16,7 @@ pub mod Bounds
 pub mod Acceptance
 pub mod StaysValid
 pub mod WriteRule
+pub mod NextRule
+pub mod Configurations
+pub mod WriterRule
+pub mod CanWriter

@@ -1,5 +1,5 @@
 -- "A sound state leads only to sound states": for every call, any limits and any lawful format.
-use Prim.Native.Nat.{ℕ, zero, suc, _≤_, _<_}
+use Prim.Native.Nat.{ℕ, _≤_, _<_}
 use mathlib.Core.Path.{_≡_, refl, ap, sym, _∙_}
 use mathlib.Core.Bool.{Bool, true, false, not, cond, _&&_, _||_, or-true, and-false}
 use mathlib.Core.List.{List, [], _∷_}
@@ -11,10 +11,10 @@ use lib.Dec.{eqb, ltb, leb, leb·suc-zero}
 use borrow.Author.Tests.{eqb-true, eq-eqb, lt-ltb, ltb-true, le-leb}
 use Rattle.rules.specs.Limits.{Limits}
 use Rattle.rules.specs.Format.{Format, Lawful}
-use Rattle.rules.specs.Repeat.{rising, all-below, better, best-below}
+use Rattle.rules.specs.Repeat.{rising, all-below}
 use Rattle.rules.specs.Mode.{STARTED, STOPPED, SLEEP, permitted}
 use Rattle.rules.specs.Reason.{first-reason, _then_, reasons-named}
-use Rattle.rules.specs.Core.{Controller, Owner, Mailbox, Core, idle-controller, unused-owner, empty-mailbox, controller-at, owner-at, mailbox-at, is-started, in-use, is-sending, controller-of, with-controllers, with-mailboxes, controller-valid, mailbox-valid, owner-place-valid, controller-place-valid, mailbox-place-valid, counts-valid, owners-valid, core-valid, initial-core}
+use Rattle.rules.specs.Core.{Controller, Owner, Mailbox, Core, idle-controller, unused-owner, empty-mailbox, controller-at, owner-at, mailbox-at, is-started, in-use, is-sending, controller-of, free-member, with-controllers, with-mailboxes, controller-valid, mailbox-valid, owner-place-valid, controller-place-valid, mailbox-place-valid, counts-valid, owners-valid, core-valid, initial-core}
 use Rattle.rules.specs.Configuration.{configuration-of, accepted-bytes, configuration-valid, header-valid, size-valid, kind-valid, objects-byte, controllers-byte, settings-place-valid, all-settings-valid}
 use Rattle.rules.specs.State.{State, with-core, valid, initial-state}
 use Rattle.rules.specs.Outcome.{Outcome, judged, lifted, state-gate, sheet-gate, full-gate}
@@ -27,18 +27,14 @@ use Rattle.rules.specs.Events.{tx-complete-checks, on-bus-checks, has-unsent, s
 use Rattle.rules.specs.Calls.{init, deinit, set-controller-mode, get-controller-mode, write, main-function-write, main-function-read, main-function-mode, main-function-bus-off, tx-complete, bus-off-detected, frame-arrived, init-checks, configured-state, frame-reason, best-object, received, not-stored}
 use Rattle.laws.proofs.Tests.{both, left, right, clash, decide, cond-both, not-true, not-false}
 use Rattle.laws.proofs.Repeat.{rising-keeps, facts-all, length-list-below, getD-list-below, last-or-below}
+use Rattle.laws.proofs.Choice.{choice-tells}
 use Rattle.laws.proofs.Reasons.{then-first, then-second, check-passed, judged-either}
-use Rattle.laws.proofs.Validity.{Valid, core-facts, facts-core, CoreKept, state-core, core-stays}
+use Rattle.laws.proofs.Pools.{named, taken-member, member-sends, member-controller}
+use Rattle.laws.proofs.Validity.{Valid, pools-valid, core-facts, facts-core, CoreKept, state-core, core-stays}
 use Rattle.laws.proofs.Sweeps.{boxes-length}
 use Rattle.laws.proofs.Changes.{not-pending, pending-needs-started, empty-valid, controllers-within, objects-within, set-mailbox-valid, sweep-valid, set-controller-valid}
 use Rattle.laws.proofs.Cancelling.{cancelled-own, cancelled-others}
 use Rattle.laws.proofs.Acceptance.{WritePassed, write-passed}
-
-none-some : {h : ℕ} → _≡_ {A = Option ℕ} none (some h) → ⊥
-none-some e = let z : _≡_ {A = ℕ} 0 1 = cc in omega arith
-
-some-same : {a b : ℕ} → _≡_ {A = Option ℕ} (some a) (some b) → a ≡ b
-some-same e = cc
 
 -- what a permitted request asks for is a mode of an initialised controller
 pub permitted-mode : (mode asked : ℕ) → permitted mode asked ≡ true → (leb STARTED asked && leb asked SLEEP) ≡ true
@@ -67,28 +63,6 @@ pub pending-facts : (receiving started : Bool) (m : Mailbox) → mailbox-valid r
 pending-facts receiving started m v p =
     left (not receiving && started) (not (m .tx-done) || true)
     (left ((not receiving && started) && (not (m .tx-done) || true)) (not (m .rx-full) || receiving) (rw p at v))
-
--- the number that is chosen is below n and fits
-better-fits : (n : ℕ) (fits : ℕ → Bool) (rank : ℕ → ℕ) (h : ℕ) (o : Option ℕ) → ((b : ℕ) → o ≡ some b → (b < n) × (fits b ≡ true)) → better fits rank n o ≡ some h → (h < suc n) × (fits h ≡ true)
-unfolding better
-better-fits n fits rank h none below e = go (decide (fits n))
-  where
-    go : (fits n ≡ true) ⊎ (fits n ≡ false) → (h < suc n) × (fits h ≡ true)
-    go (inl t) = let same : n ≡ h = some-same (rw t at e) in (omega arith, rw (← same) t)
-    go (inr t) = absurd (none-some (rw t at e))
-better-fits n fits rank h (some b) below e = go (decide (fits n && ltb (rank b) (rank n)))
-  where
-    go : ((fits n && ltb (rank b) (rank n)) ≡ true) ⊎ ((fits n && ltb (rank b) (rank n)) ≡ false) → (h < suc n) × (fits h ≡ true)
-    go (inl t) = let same : n ≡ h = some-same (rw t at e) in (omega arith, rw (← same) (left (fits n) (ltb (rank b) (rank n)) t))
-    go (inr t) =
-        let same : b ≡ h = some-same (rw t at e) in
-        let earlier = below b refl in
-        (let l : b < n = earlier .0 in omega arith, rw (← same) (earlier .1))
-
-pub chosen-fits : (n : ℕ) (fits : ℕ → Bool) (rank : ℕ → ℕ) (h : ℕ) → best-below n fits rank ≡ some h → (h < n) × (fits h ≡ true)
-unfolding best-below
-chosen-fits zero fits rank h e = absurd (none-some e)
-chosen-fits (suc n) fits rank h e = better-fits n fits rank h (best-below n fits rank) (λ b. chosen-fits n fits rank b) e
 
 -- The calls on the core
 
@@ -149,14 +123,15 @@ module _ (L : Limits) where
             refl)
 
     -- a write that is taken
-    pub taken-kept : (h frame : ℕ) → write-reason core h frame ≡ 0 → CoreKept L core (taken core h)
+    pub taken-kept : (h frame : ℕ) → write-reason core h frame ≡ 0 → CoreKept L core (taken core (free-member core h))
     taken-kept h frame r =
         let w = write-passed core h frame r in
-        let number = ltb h (core .object-count) in
-        let kind = not (owner-at (core .owners) h .receiving) in
-        changed core (core .controllers) _
-        (set-mailbox-valid L core facts h written-mailbox (ltb-true h (core .object-count) (left number kind (w .sending)))
-        (both (both (both (right number kind (w .sending)) (w .started)) refl) refl))
+        let n = named core h (w .pool-named) in
+        let m = free-member core h in
+        let p = taken-member core h n in
+        let sends : owner-at (core .owners) m .receiving ≡ false = member-sends (core .owners) (owner-at (core .owners) h .pool) m (p .pooled) in
+        let started : is-started (controller-of core m) ≡ true = rw (member-controller (L .objects) core h m (pools-valid L core facts) n p) (w .started) in
+        changed core (core .controllers) _ (set-mailbox-valid L core facts m written-mailbox (p .in-use) (both (both (both {a = not (owner-at (core .owners) m .receiving)} (rw sends) started) refl) refl))
 
     pub tx-complete-kept : (h : ℕ) → Kept (events.tx-complete gate core ram h)
     unfolding events.tx-complete reasons-named
@@ -195,10 +170,10 @@ module _ (L : Limits) where
     unfolding events.best-object
     filled-kept c h accepts rank e =
         let o = owner-at (core .owners) h in
-        let chosen = chosen-fits (core .object-count) _ _ h e in
-        let fits = left (fits-frame c o (accepts h)) _ (chosen .1) in
+        let chosen = choice-tells _ _ (core .object-count) (some h) e in
+        let fits = left (fits-frame c o (accepts h)) _ (chosen .fitting) in
         let receiving = left (o .receiving) (eqb (o .controller) c) (left (o .receiving && eqb (o .controller) c) (accepts h) fits) in
-        changed core (core .controllers) _ (set-mailbox-valid L core facts h filled-mailbox (chosen .0) receiving)
+        changed core (core .controllers) _ (set-mailbox-valid L core facts h filled-mailbox (chosen .below) receiving)
 
     -- a poll over the objects
     pub objects-polled-kept : (visit : Visit) → Kept (objects-polled gate visit core ram)
@@ -274,6 +249,7 @@ module _ (L : Limits) where
   going-off-sound = record { enters = λ k kv due. refl; stays-on = λ k stays st. clash refl stays }
 
   pub initial-core-valid : core-valid L (initial-core L) ≡ true
+  unfolding all-below
   initial-core-valid =
       facts-core L (initial-core L)
       (record {
@@ -281,7 +257,7 @@ module _ (L : Limits) where
         owner-places = length-replicate (L .objects) unused-owner;
         mailbox-places = length-replicate (L .objects) empty-mailbox;
         counts = refl;
-        owners = facts-all (L .objects) (owner-place-valid 0 0 (replicate (L .objects) unused-owner)) (λ h l. rw (leb·suc-zero h, getD-replicate (L .objects) h unused-owner unused-owner l));
+        owners = both (facts-all (L .objects) (owner-place-valid 0 0 (replicate (L .objects) unused-owner)) (λ h l. rw (leb·suc-zero h, getD-replicate (L .objects) h unused-owner unused-owner l))) refl;
         controllers = λ c l. rw (leb·suc-zero c, getD-replicate (L .controllers) c idle-controller idle-controller l);
         mailboxes = λ h l. rw (leb·suc-zero h, getD-replicate (L .objects) h empty-mailbox empty-mailbox l);
       })
@@ -308,12 +284,12 @@ module _ (L : Limits) where
 
 module _ (L : Limits) (F : Format) where
   pub initial-valid : Lawful L F → valid L F (initial-state L F) ≡ true
-  unfolding valid
+  unfolding valid all-below
   initial-valid lawful =
       let unused = replicate (L .objects) unused-owner in
       let settings = replicate (L .objects) (F .unused-settings) in
       both (both (initial-core-valid L) (eq-eqb _ _ (length-replicate (L .objects) (F .unused-settings))))
-      (facts-all (L .objects) (settings-place-valid F 0 unused settings) (λ h l. rw (leb·suc-zero h, getD-replicate (L .objects) h (F .unused-settings) (F .unused-settings) l) (lawful .unused)))
+      (both (facts-all (L .objects) (settings-place-valid F 0 unused settings) (λ h l. rw (leb·suc-zero h, getD-replicate (L .objects) h (F .unused-settings) (F .unused-settings) l) (lawful .unused))) refl)
 
   pub configured-valid : (bytes : List ℕ) → accepted-bytes L F bytes ≡ true → valid L F (configured-state L F (configuration-of L F bytes)) ≡ true
   unfolding accepted-bytes configuration-of valid

@@ -8,8 +8,8 @@ use borrow.Author.Tests.{eqb-true, eq-eqb}
 use Rattle.rules.specs.Limits.{Limits}
 use Rattle.rules.specs.Format.{Format}
 use Rattle.rules.specs.Repeat.{all-below}
-use Rattle.rules.specs.Core.{Owner, Core, core-valid, has-places, counts-valid, nothing-in-use, owners-valid, controller-place-valid, mailbox-place-valid}
-use Rattle.rules.specs.Configuration.{all-settings-valid}
+use Rattle.rules.specs.Core.{Owner, Core, core-valid, has-places, counts-valid, nothing-in-use, owners-valid, owner-place-valid, pool-valid, controller-place-valid, mailbox-place-valid}
+use Rattle.rules.specs.Configuration.{settings-place-valid, settings-agreed, all-settings-valid}
 use Rattle.rules.specs.State.{State, with-core, valid}
 use Rattle.laws.proofs.Tests.{both, left, right}
 use Rattle.laws.proofs.Repeat.{all-facts, facts-all}
@@ -22,6 +22,17 @@ pub record Valid (L : Limits) (core : Core) : Type 0 where
   pub owners : owners-valid L (core .controller-count) (core .object-count) (core .owners) ≡ true
   pub controllers : (c : ℕ) → c < L .controllers → controller-place-valid core c ≡ true
   pub mailboxes : (h : ℕ) → h < L .objects → mailbox-place-valid core h ≡ true
+
+-- each owner is valid at its place, and so is each pool
+pub owners-placed : (L : Limits) (core : Core) → Valid L core → (h : ℕ) → h < L .objects → owner-place-valid (core .controller-count) (core .object-count) (core .owners) h ≡ true
+owners-placed L core v =
+    let place = owner-place-valid (core .controller-count) (core .object-count) (core .owners) in
+    all-facts (L .objects) place (left (all-below (L .objects) place) (all-below (core .object-count) (pool-valid (L .objects) (core .owners))) (v .owners))
+
+pub pools-valid : (L : Limits) (core : Core) → Valid L core → all-below (core .object-count) (pool-valid (L .objects) (core .owners)) ≡ true
+pools-valid L core v =
+    right (all-below (L .objects) (owner-place-valid (core .controller-count) (core .object-count) (core .owners)))
+    (all-below (core .object-count) (pool-valid (L .objects) (core .owners))) (v .owners)
 
 module _ (L : Limits) (core : Core) where
   P₁ : Bool
@@ -85,6 +96,14 @@ module _ (L : Limits) (F : Format) (s : State F) where
   state-core v =
       let suits = all-settings-valid L F (s .core .object-count) (s .core .owners) (s .settings) in
       left (core-valid L (s .core)) (eqb (length (s .settings)) (L .objects)) (left (core-valid L (s .core) && eqb (length (s .settings)) (L .objects)) suits v)
+
+  -- the settings of a pool agree
+  pub settings-agree : valid L F s ≡ true → settings-agreed F (s .core .object-count) (s .core .owners) (s .settings) ≡ true
+  unfolding valid
+  settings-agree v =
+      let places = all-below (L .objects) (settings-place-valid F (s .core .object-count) (s .core .owners) (s .settings)) in
+      let agreed = settings-agreed F (s .core .object-count) (s .core .owners) (s .settings) in
+      right places agreed (right (core-valid L (s .core) && eqb (length (s .settings)) (L .objects)) (places && agreed) v)
 
   pub core-stays : (next : Core) → CoreKept L (s .core) next → valid L F s ≡ true → valid L F (with-core s next) ≡ true
   unfolding valid

@@ -1,4 +1,4 @@
--- The twelve calls on the driver state, in the order of 01. Each is a gate (41, 32, 33), then its part on the core (Services, Polls,
+-- The twelve calls on the driver state, in the order of 01, and 02's choice of who sends next. Each is a gate (41, 32, 33), then its part on the core (Services, Polls,
 -- Events). Init and DeInit set what is configured of frames besides, Write and Arrived judge a frame and lay it down.
 use Prim.Native.Nat.{ℕ}
 use mathlib.Core.Bool.{Bool, true, false, not}
@@ -11,8 +11,9 @@ use Rattle.rules.specs.Bytes.{splice}
 use Rattle.rules.specs.Notification.{data-lost}
 use Rattle.rules.specs.Reason.{Check, _if_, first-reason, _then_, CAN-E-TRANSITION, CAN-E-INIT-FAILED}
 use Rattle.rules.specs.Configuration.{Configuration, settings-at, configuration-of, accepted-bytes}
+use Rattle.rules.specs.Core.{free-member}
 use Rattle.rules.specs.State.{State, with-core, initial-state}
-use Rattle.rules.specs.Outcome.{Outcome, no-answer, taken-by, stored-in, unwanted, lost, service-report, no-report, rejected, accepted, judged, lifted, state-gate, sheet-gate, full-gate}
+use Rattle.rules.specs.Outcome.{Outcome, no-answer, taken-by, stored-in, unwanted, lost, service-report, no-report, rejected, accepted, judged, lifted, state-gate, sheet-gate, full-gate, ram-gate}
 use Rattle.rules.specs.Services as services
 use Rattle.rules.specs.Services.{INIT, DEINIT, WRITE, configured-core, deinit-checks, write-reason, taken}
 use Rattle.rules.specs.Polls as polls
@@ -67,13 +68,14 @@ module _ (L : Limits) (F : Format) where
   abbrev pub laid-down : State F → List ℕ → ℕ → ℕ → F .Frame → List ℕ
   laid-down s ram h handle frame = splice (object-start L h) (F .object-bytes (settings-of-object s h) handle frame) ram
 
-  -- "Write: 5, 2 .., 3 .., 34, 35, 36." "On success the 72 bytes are laid down whole and the object is occupied."; gate is the reason that
-  -- the call's gate found
+  -- "Write: 5, 2 .., 3 .., 34, 35, 36." "On success the 72 bytes are laid down whole and the object is occupied."; 02: "It takes the lowest
+  -- free member, answers which"; gate is the reason that the call's gate found
   abbrev pub written : ℕ → State F → List ℕ → ℕ → ℕ → F .Frame → Outcome (State F)
   written gate s ram h handle frame =
+      let m = free-member (s .core) h in
       judged (gate then write-reason (s .core) h (frame-reason s h frame))
       (rejected (service-report WRITE) no-answer s ram)
-      (accepted (taken-by h) (with-core s (taken (s .core) h)) (laid-down s ram h handle frame) [])
+      (accepted (taken-by m) (with-core s (taken (s .core) m)) (laid-down s ram m handle frame) [])
 
   unfoldable pub write : State F → ℕ → List ℕ → ℕ → ℕ → F .Frame → Outcome (State F)
   write s sheet ram h handle frame = written (full-gate L F s sheet ram) s ram h handle frame
@@ -137,3 +139,7 @@ module _ (L : Limits) (F : Format) where
 
   unfoldable pub frame-arrived : State F → ℕ → List ℕ → ℕ → F .Frame → Outcome (State F)
   frame-arrived s sheet ram c frame = arrived (full-gate L F s sheet ram) s ram c frame
+
+  -- 02, Q-2: "the bench's choice of who sends next on a controller", by the identifiers in the memory lent
+  unfoldable pub next-to-send : State F → List ℕ → ℕ → Outcome (State F)
+  next-to-send s ram c = lifted s (events.next-to-send (ram-gate L F s ram) (s .core) ram c (λ h. F .priority (polls.object-in (L .object-size) ram h)))

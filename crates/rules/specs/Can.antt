@@ -1,5 +1,5 @@
--- Classic and FD frames. 01, "Identifiers and lengths", and the 72 bytes of an object; 02, Q-1.
-use Prim.Native.Nat.{ℕ, _+_, _-_, _/_, _%_, _^_}
+-- Classic and FD frames. 01, "Identifiers and lengths", and the 72 bytes of an object; 02, Q-1 and Q-2.
+use Prim.Native.Nat.{ℕ, _+_, _-_, _*_, _/_, _%_, _^_}
 use mathlib.Core.Bool.{Bool, not, cond, _&&_, _||_}
 use mathlib.Core.List.{List, [], _∷_, _++_}
 use lib.ListN.{length, getD, replicate}
@@ -9,6 +9,8 @@ use Rattle.rules.specs.Limits.{Limits, ram-size, object-start}
 use Rattle.rules.specs.Repeat.{all-below}
 use Rattle.rules.specs.Bytes.{big-endian, number, part}
 use Rattle.rules.specs.Reason.{Check, _if_, CAN-E-PARAM-DATA-LENGTH, BAD-IDENTIFIER, BAD-LENGTH}
+use Rattle.rules.specs.Head.{identifier-in}
+use Rattle.rules.specs.Core.{Owner}
 use Rattle.rules.specs.Format.{Format}
 
 -- a frame: identifier word, and its data (AUTOSAR's SDU)
@@ -129,13 +131,45 @@ unused-settings = record { payload = 0; padding = 0; code = 0; mask = 0 }
 abbrev pub settings-unused : Settings → Bool
 settings-unused s = eqb (s .payload) 0 && eqb (s .padding) 0 && eqb (s .code) 0 && eqb (s .mask) 0
 
--- bytes 2 to 11 of a record: payload, padding value, filter code, filter mask
-abbrev pub settings-of : List ℕ → Settings
-settings-of r = record { payload = getD r 2 0; padding = getD r 3 0; code = number (part 4 4 r); mask = number (part 8 4 r) }
+-- 02, Q-2: "agree in .. payload and padding"
+abbrev pub settings-agree : Settings → Settings → Bool
+settings-agree s t = eqb (s .payload) (t .payload) && eqb (s .padding) (t .padding)
 
--- "the three bytes 43 48 42 .., version 00 01"
+-- "the three bytes 43 48 42"
 abbrev pub header : List ℕ
-header = 0x43 ∷ 0x48 ∷ 0x42 ∷ 0x00 ∷ 0x01 ∷ []
+header = 0x43 ∷ 0x48 ∷ 0x42 ∷ []
+
+-- "version 00 01"; 02: "Configuration version 2 (bytes 00 02)", "Init takes both versions, any other is 9"
+abbrev pub known-version : ℕ → Bool
+known-version version = eqb version 1 || eqb version 2
+
+-- 02: version 2 "uses the last byte of a sending record's code for a pool number"
+abbrev pub says-pool : ℕ → List ℕ → Bool
+says-pool version r = eqb version 2 && eqb (getD r 1 0) 0
+
+-- "filter code (4)"; where its last byte says a pool, the code is "its other .. bytes"
+abbrev pub code-of : ℕ → List ℕ → ℕ
+code-of version r = cond (says-pool version r) (number (part 4 3 r ++ (0 ∷ []))) (number (part 4 4 r))
+
+-- bytes 2 to 11 of a record: payload, padding value, filter code, filter mask
+abbrev pub settings-of : ℕ → List ℕ → Settings
+settings-of version r = record { payload = getD r 2 0; padding = getD r 3 0; code = code-of version r; mask = number (part 8 4 r) }
+
+-- the pool of sending object h: 02, "In version 1 each object is its own pool, under its own number"
+abbrev pub pool-of : ℕ → ℕ → List ℕ → ℕ
+pool-of version h r = cond (says-pool version r) (getD r 7 0) h
+
+-- version 2 has a byte for the pool, version 1 says none but the object's own number; each other number has its bytes of the record
+abbrev pub can-say : ℕ → ℕ → Owner → Settings → Bool
+can-say version h o s =
+    cond (eqb version 2) (ltb (o .pool) 256) (o .receiving || eqb (o .pool) h)
+    && (ltb (o .controller) 256 && ltb (s .payload) 256 && ltb (s .padding) 256 && ltb (s .code) (2 ^ 32) && ltb (s .mask) (2 ^ 32))
+
+-- "controller .., kind .., payload .., padding value, filter code (4), filter mask (4)"
+abbrev pub record-of : ℕ → Owner → Settings → List ℕ
+record-of version o s =
+    (o .controller ∷ cond (o .receiving) 1 0 ∷ s .payload ∷ s .padding ∷ [])
+    ++ (cond (eqb version 2 && not (o .receiving)) (0 ∷ 0 ∷ 0 ∷ o .pool ∷ []) (big-endian 4 (s .code)) ++ big-endian 4 (s .mask))
 
 -- The bytes of an object: "identifier word (4 bytes), wire length (1), DLC code (1), handle (2), data (64)"
 
@@ -163,6 +197,24 @@ arrival-checks f =
     ∷ BAD-LENGTH if not (is-wire-length (f .identifier) (length (f .sdu)))
     ∷ []
 
+-- Who sends next. 02, Q-2
+
+-- "11-bit base identifier .. (bits 10 to 0 of a standard one, bits 28 to 18 of an extended one)"
+abbrev pub base-identifier : ℕ → ℕ
+base-identifier x = cond (is-extended x) (x / 2 ^ 18 % 2 ^ 11) (x % 2 ^ 11)
+
+-- "the lower 18 bits of extended ones"
+abbrev pub lower-identifier : ℕ → ℕ
+lower-identifier x = cond (is-extended x) (x % 2 ^ 18) 0
+
+-- 02's order as one number, the first one lowest: base identifier, "then standard before extended", then the lower bits
+abbrev pub arbitration-key : ℕ → ℕ
+arbitration-key x = (base-identifier x * 2 + cond (is-extended x) 1 0) * 2 ^ 18 + lower-identifier x
+
+-- the lowest key ranks highest; a key has 30 bits
+abbrev pub priority : List ℕ → ℕ
+priority bytes = 2 ^ 30 - 1 - arbitration-key (identifier-in bytes)
+
 -- classic and FD frames as a format; all filters rank alike
 abbrev pub can-format : Format
 can-format =
@@ -172,14 +224,20 @@ can-format =
       unused-settings = unused-settings;
       settings-unused = settings-unused;
       settings-valid = settings-valid;
+      settings-agree = settings-agree;
       header = header;
+      known-version = known-version;
       record-size = 12;
       settings-of = settings-of;
+      pool-of = pool-of;
+      can-say = can-say;
+      record-of = record-of;
       write-checks = write-checks;
       arrival-checks = arrival-checks;
       accepts = λ s f. filter-accepts (f .identifier) (s .code) (s .mask) (s .payload);
       rank = λ s. 0;
       object-bytes = object-bytes;
+      priority = priority;
     }
 
 -- Data of an object: "that part of the caller's mailbox memory that holds its data, as long as byte 4 says;

@@ -1,14 +1,14 @@
--- The configuration and its bytes. 01, "Configuration bytes".
+-- The configuration and its bytes. 01, "Configuration bytes"; 02, Q-2.
 use Prim.Native.Nat.{ℕ, _+_, _*_}
-use mathlib.Core.Bool.{Bool, cond, _&&_}
-use mathlib.Core.List.{List}
+use mathlib.Core.Bool.{Bool, cond, _&&_, _||_}
+use mathlib.Core.List.{List, [], _∷_}
 use lib.ListN.{length, take, getD, replicate}
 use lib.Dec.{eqb, ltb, leb}
 use Rattle.rules.specs.Limits.{Limits}
 use Rattle.rules.specs.Format.{Format}
 use Rattle.rules.specs.Repeat.{all-below, list-below}
-use Rattle.rules.specs.Bytes.{part, same-bytes}
-use Rattle.rules.specs.Core.{Owner, unused-owner, owner-at, counts-valid, owners-valid}
+use Rattle.rules.specs.Bytes.{number, part, same-bytes}
+use Rattle.rules.specs.Core.{Owner, unused-owner, owner-at, lowest-of, counts-valid, owners-valid}
 
 -- how many controllers and objects are in use, and for each object's place its owner and what is configured of its frames
 pub record Configuration (F : Format) : Type 0 where
@@ -21,17 +21,23 @@ pub record Configuration (F : Format) : Type 0 where
 abbrev pub header-size : ℕ
 header-size = 8
 
+-- bytes 3 and 4
+abbrev pub version-of : List ℕ → ℕ
+version-of bytes = number (getD bytes 3 0 ∷ getD bytes 4 0 ∷ [])
+
 abbrev pub controllers-byte : List ℕ → ℕ
 controllers-byte bytes = getD bytes 5 0
 
 abbrev pub objects-byte : List ℕ → ℕ
 objects-byte bytes = getD bytes 6 0
 
--- "controller .., kind (0 sending, 1 receiving)", the first two bytes of a record
-abbrev pub owner-of : List ℕ → Owner
-owner-of r = record { controller = getD r 0 0; receiving = eqb (getD r 1 0) 1 }
-
 module _ (F : Format) where
+  -- "controller .., kind (0 sending, 1 receiving)", the first two bytes of object h's record; a sending object has a pool besides
+  abbrev pub owner-of : ℕ → ℕ → List ℕ → Owner
+  owner-of version h r =
+      let receiving = eqb (getD r 1 0) 1 in
+      record { controller = getD r 0 0; receiving = receiving; pool = cond receiving 0 (F .pool-of version h r) }
+
   abbrev pub settings-at : List (F .Settings) → ℕ → F .Settings
   settings-at ss h = getD ss h (F .unused-settings)
 
@@ -40,9 +46,15 @@ module _ (F : Format) where
   settings-place-valid object-count os ss h =
       cond (ltb h object-count) (F .settings-valid (owner-at os h .receiving) (settings-at ss h)) (F .settings-unused (settings-at ss h))
 
+  -- "Objects with one pool number must agree in .. payload and padding": each with the lowest one
+  abbrev pub settings-agreed : ℕ → List Owner → List (F .Settings) → Bool
+  settings-agreed object-count os ss =
+      all-below object-count (λ h. owner-at os h .receiving || F .settings-agree (settings-at ss h) (settings-at ss (lowest-of os h)))
+
 module _ (L : Limits) (F : Format) where
   abbrev pub all-settings-valid : ℕ → List Owner → List (F .Settings) → Bool
-  all-settings-valid object-count os ss = all-below (L .objects) (settings-place-valid F object-count os ss)
+  all-settings-valid object-count os ss =
+      all-below (L .objects) (settings-place-valid F object-count os ss) && settings-agreed F object-count os ss
 
   -- a configuration that Init accepts, once it is read
   abbrev pub configuration-valid : Configuration F → Bool
@@ -61,13 +73,13 @@ module _ (L : Limits) (F : Format) where
       record {
         controller-count = controllers-byte bytes;
         object-count = objects-byte bytes;
-        owners = list-below (L .objects) (λ h. cond (ltb h (objects-byte bytes)) (owner-of (object-record bytes h)) unused-owner);
-        settings = list-below (L .objects) (λ h. cond (ltb h (objects-byte bytes)) (F .settings-of (object-record bytes h)) (F .unused-settings));
+        owners = list-below (L .objects) (λ h. cond (ltb h (objects-byte bytes)) (owner-of F (version-of bytes) h (object-record bytes h)) unused-owner);
+        settings = list-below (L .objects) (λ h. cond (ltb h (objects-byte bytes)) (F .settings-of (version-of bytes) (object-record bytes h)) (F .unused-settings));
       }
 
   -- "the three bytes 43 48 42 .., version 00 01, controllers .., objects n .., a zero byte"
   abbrev pub header-valid : List ℕ → Bool
-  header-valid bytes = same-bytes (take (length (F .header)) bytes) (F .header) && eqb (getD bytes 7 0) 0
+  header-valid bytes = same-bytes (take (length (F .header)) bytes) (F .header) && F .known-version (version-of bytes) && eqb (getD bytes 7 0) 0
 
   -- "Total exactly 8 + 12n"
   abbrev pub size-valid : List ℕ → Bool

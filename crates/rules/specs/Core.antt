@@ -7,7 +7,7 @@ use lib.ListN.{length, getD, replicate}
 use lib.Dec.{eqb, ltb, leb}
 use Rattle.rules.specs.Limits.{Limits}
 use Rattle.rules.specs.Mode.{UNINIT, STARTED, SLEEP, NO-REQUEST, permitted}
-use Rattle.rules.specs.Repeat.{all-below}
+use Rattle.rules.specs.Repeat.{all-below, lowest-or}
 
 -- "its mode, a waiting request (none or a mode) and an off-bus mark"
 pub record Controller : Type 0 where
@@ -15,10 +15,12 @@ pub record Controller : Type 0 where
   pub requested-mode : ℕ
   pub bus-off : Bool
 
--- whose an object is, and its kind: "controller .., kind (0 sending, 1 receiving)"
+-- whose an object is, and its kind: "controller .., kind (0 sending, 1 receiving)"; and 02's "pool number" of a sending one
 pub record Owner : Type 0 where
   pub controller : ℕ
   pub receiving : Bool
+  -- 0 of a receiving object
+  pub pool : ℕ
 
 -- "per sending object occupied and gone; per receiving object full"
 pub record Mailbox : Type 0 where
@@ -46,7 +48,7 @@ abbrev pub idle-controller : Controller
 idle-controller = record { mode = UNINIT; requested-mode = NO-REQUEST; bus-off = false }
 
 abbrev pub unused-owner : Owner
-unused-owner = record { controller = 0; receiving = false }
+unused-owner = record { controller = 0; receiving = false; pool = 0 }
 
 abbrev pub empty-mailbox : Mailbox
 empty-mailbox = record { tx-pending = false; tx-done = false; rx-full = false }
@@ -55,7 +57,7 @@ abbrev pub controller-idle : Controller → Bool
 controller-idle k = eqb (k .mode) UNINIT && eqb (k .requested-mode) NO-REQUEST && not (k .bus-off)
 
 abbrev pub owner-unused : Owner → Bool
-owner-unused o = eqb (o .controller) 0 && not (o .receiving)
+owner-unused o = eqb (o .controller) 0 && not (o .receiving) && eqb (o .pool) 0
 
 abbrev pub mailbox-empty : Mailbox → Bool
 mailbox-empty m = not (m .tx-pending) && not (m .tx-done) && not (m .rx-full)
@@ -84,6 +86,28 @@ is-sending core h = ltb h (core .object-count) && not (owner-at (core .owners) h
 -- the controller that an object belongs to
 abbrev pub controller-of : Core → ℕ → Controller
 controller-of core h = controller-at (core .controllers) (owner-at (core .owners) h .controller)
+
+-- Pools. 02, Q-2: "links transmit objects into one pool"
+
+-- object i is a member of the pool with this number
+abbrev pub in-pool : List Owner → ℕ → ℕ → Bool
+in-pool os pool i = not (owner-at os i .receiving) && eqb (owner-at os i .pool) pool
+
+-- "its lowest object": the lowest member of the pool of object h, which is a member itself
+abbrev pub lowest-of : List Owner → ℕ → ℕ
+lowest-of os h = lowest-or h (in-pool os (owner-at os h .pool)) h
+
+-- "Write names the pool by its lowest object"
+abbrev pub names-pool : Core → ℕ → Bool
+names-pool core h = is-sending core h && eqb (lowest-of (core .owners) h) h
+
+-- object i is a member of the pool of object h, and free
+abbrev pub free-in-pool : Core → ℕ → ℕ → Bool
+free-in-pool core h i = in-pool (core .owners) (owner-at (core .owners) h .pool) i && not (mailbox-at (core .mailboxes) i .tx-pending)
+
+-- "the lowest free member" of the pool of object h; h itself where none is free
+abbrev pub free-member : Core → ℕ → ℕ
+free-member core h = lowest-or (core .object-count) (free-in-pool core h) h
 
 -- What a call changes
 
@@ -121,6 +145,13 @@ controller-valid k =
 -- "controller (below the count)"
 abbrev pub owner-valid : ℕ → Owner → Bool
 owner-valid controller-count o = ltb (o .controller) controller-count
+
+-- of object h: a "pool number, 0 to 31", one for each place; "Objects with one pool number must agree in controller", each with the lowest
+-- one; a receiving object is in no pool
+abbrev pub pool-valid : ℕ → List Owner → ℕ → Bool
+pool-valid places os h =
+    let o = owner-at os h in
+    cond (o .receiving) (eqb (o .pool) 0) (ltb (o .pool) places && eqb (o .controller) (owner-at os (lowest-of os h) .controller))
 
 -- "occupied only on a configured sending object of a STARTED controller, gone only with occupied, full only on a configured receiving object"
 abbrev pub mailbox-valid : Bool → Bool → Mailbox → Bool
@@ -162,7 +193,8 @@ module _ (L : Limits) where
   counts-valid controller-count object-count = leb 1 controller-count && leb controller-count (L .controllers) && leb object-count (L .objects)
 
   abbrev pub owners-valid : ℕ → ℕ → List Owner → Bool
-  owners-valid controller-count object-count os = all-below (L .objects) (owner-place-valid controller-count object-count os)
+  owners-valid controller-count object-count os =
+      all-below (L .objects) (owner-place-valid controller-count object-count os) && all-below object-count (pool-valid (L .objects) os)
 
   -- "uninitialised with everything else at rest ..; or its configuration is one that Init accepts, .. and unused places are at rest": all of
   -- it but what the configuration says of frames

@@ -1,14 +1,14 @@
 -- The bench events' part that looks at no frame. 01, "Bench events". The calls themselves stand in Calls.
 use Prim.Native.Nat.{ℕ}
-use mathlib.Core.Bool.{Bool, Bool·beq, true, false, not, _&&_}
+use mathlib.Core.Bool.{Bool, Bool·beq, true, false, not, cond, _&&_}
 use mathlib.Core.List.{List, [], _∷_}
-use mathlib.Core.Option.{Option}
+use mathlib.Core.Option.{Option, none}
 use lib.ListN.{set}
 use lib.Dec.{eqb}
 use Rattle.rules.specs.Repeat.{best-below}
 use Rattle.rules.specs.Reason.{Check, _if_, first-reason, _then_, CAN-E-PARAM-HANDLE, CAN-E-PARAM-CONTROLLER, CAN-E-UNINIT, NOT-STARTED, BUS-OFF, NOTHING-TO-SEND}
 use Rattle.rules.specs.Core.{Controller, Owner, Mailbox, Core, controller-at, owner-at, mailbox-at, is-started, in-use, is-sending, controller-of, with-controllers, with-mailboxes}
-use Rattle.rules.specs.Outcome.{Outcome, no-answer, no-report, rejected, accepted, judged}
+use Rattle.rules.specs.Outcome.{Outcome, no-answer, sends-next, no-report, rejected, accepted, judged}
 
 -- Sent
 
@@ -78,3 +78,24 @@ filled-mailbox = record { tx-pending = false; tx-done = false; rx-full = true }
 -- the core once an arrival is stored in object h
 abbrev pub filled : Core → ℕ → Core
 filled core h = with-mailboxes core (set (core .mailboxes) h filled-mailbox)
+
+-- Who sends next. 02, Q-2: "the bench's choice of who sends next on a controller". A frame is known by its rank.
+
+-- object h waits to be sent on controller c: "gone objects don't compete"
+abbrev pub competes : Core → ℕ → ℕ → Bool
+competes core c h = eqb (owner-at (core .owners) h .controller) c && has-unsent (mailbox-at (core .mailboxes) h)
+
+-- ""none" exactly if nobody waits or the controller is off-bus"; else the object with the highest rank, "then the lower object"
+unfoldable pub next-object : Core → ℕ → (ℕ → ℕ) → Option ℕ
+next-object core c rank = cond (controller-at (core .controllers) c .bus-off) none (best-below (core .object-count) (competes core c) rank)
+
+-- "5, 4"
+abbrev pub next-to-send-checks : Core → ℕ → List Check
+next-to-send-checks core c = CAN-E-UNINIT if not (core .initialised) ∷ CAN-E-PARAM-CONTROLLER if not (in-use core c) ∷ []
+
+-- it changes and writes nothing
+unfoldable pub next-to-send : ℕ → Core → List ℕ → ℕ → (ℕ → ℕ) → Outcome Core
+next-to-send gate core ram c rank =
+    judged (gate then first-reason (next-to-send-checks core c))
+    (rejected no-report no-answer core ram)
+    (accepted (sends-next (next-object core c rank)) core ram [])

@@ -2,9 +2,9 @@
 -- other.
 --
 -- Core is the part of the driver state that never sees a frame: who owns each object, and what waits where. Services, Polls and Events
--- have the parts of the calls that look at no frame, on a core. Calls has the twelve calls themselves, on a driver state: a core, and what
--- is configured of each object's frames. Each is written once, for any limits (Limits) and any kind of frame (Format). Can is 01's kind of
--- frame, and Chip has the limits of this chip.
+-- have the parts of the calls that look at no frame, on a core. Calls has the twelve calls themselves and 02's choice of who sends next, on a
+-- driver state: a core, and what is configured of each object's frames. Writer has a configuration's bytes. Each is written once, for any
+-- limits (Limits) and any kind of frame (Format). Can is 01's kind of frame, and Chip has the limits of this chip.
 --
 -- Identifiers are the field's terms. The glossary gives 01's word, the identifier for it here, and what to know beside; words that are
 -- the same in both are left out. Its groups are the sections of 01, with the files that state them.
@@ -13,6 +13,7 @@
 --   controller                   Controller                           its mode, request and mark; c is its number
 --   hardware object, object      Owner, Mailbox, Settings             its owner and kind, its flags, its frames' settings; h is its number
 --   sending, receiving; kind     receiving                            of an Owner: false, true
+--   pool, pool number (02, Q-2)  pool                                 of an Owner; 0 of a receiving one. A member is in-pool
 --   place                        controller-at, owner-at, mailbox-at  an entry of the state's lists, in use or not; settings-at too
 --   driver state                 State                                a Core, and the settings of each object
 --   sound                        valid                                what of it looks at no frame is core-valid
@@ -29,14 +30,19 @@
 --   notice sheet, sheet          sheet                                of sheet-size words at least; a call leaves it as sheet-after says
 --   record, notice               Notification                         its four words are words; a call writes notification-limit at most
 --
--- Configuration bytes (Configuration, Can)
+-- Configuration bytes (Configuration, Can, Writer)
 --   record of 12 bytes           object-record                        of a configuration: no Notification; owner-of and settings-of read it
 --   controllers, objects n       controller-count, object-count       in the bytes controllers-byte and objects-byte
 --   payload, padding value       payload, padding                     of Settings
 --   filter code, filter mask     code, mask                           of Settings too
+--   version (02, Q-2)            version-of                           bytes 3 and 4; those that there are: known-version
+--   its own pool, own number     pool-of                              what a record of a version says of the pool of object h
+--   must agree (02, Q-2)         pool-valid, settings-agreed          each object of a pool with the lowest: controller; payload and padding
 --   stray bit (02, Q-1)          stray-at                             a one of the code where the mask has a zero; without any: within-mask
 --   one that Init accepts        configuration-valid                  once it is read: configuration-of
 --   bad configuration            not accepted-bytes
+--   writer (02, Q-2)             configuration-bytes, buffer-after    the bytes of a version, and the buffer they are written into
+--   what a version can say       can-say                              else 9; then 32 for a short buffer: writer-reason
 --
 -- Identifiers and lengths (Format, Can, Events)
 --   frame                        Frame                                an identifier word and data; each Format has its own
@@ -50,6 +56,8 @@
 --   SetControllerMode, Set       set-controller-mode
 --   GetControllerMode, Get       get-controller-mode
 --   handle                       handle                               read back from an object's bytes by handle-in
+--   names the pool (02, Q-2)     names-pool                           a sending object that is its pool's lowest: lowest-of
+--   lowest free member           free-member                          of the pool of object h; h itself where none is free
 --   write poll                   main-function-write                  visits every object in use, as a read poll does: visit-all
 --   read poll                    main-function-read
 --   mode poll                    main-function-mode                   every controller in use has its turn, as in a bus-off poll: turn-all
@@ -65,19 +73,21 @@
 --   in rising order              rising                               over numbers below n, each step on what the last one left (Repeat)
 --   Data of an object            data-of
 --
--- Bench events (Events, Calls)
+-- Bench events (Events, Calls, Can)
 --   Sent                         tx-complete                          an unsent frame is has-unsent
 --   Bus-off                      bus-off-detected
 --   Arrived                      frame-arrived                        best-object is the one that fits best, the lowest among equals
 --   stored, unwanted, lost       stored-in, unwanted, lost            answers of an arrival; a write's answer is taken-by
 --   runtime error, data lost     data-lost
+--   who sends next (02, Q-2)     next-to-send                         its answer is sends-next; among objects that wait: competes
+--   base identifier, lower bits  base-identifier, lower-identifier    02's order as one number is arbitration-key; as a rank, priority
 --
 -- Reasons for a no (Reason, Outcome)
 --   a no, a refusal              rejected
 --   accepted, returns 0          accepted, is-accepted                what such a call leaves; demand 3's test of a call
 --   return code                  code                                 return-code gives it by the reason
 --   first that applies counts    first-reason                         of a list of Check, one for each reason; two in a row: _then_
---   41, 32, 33                   state-gate, sheet-gate, full-gate    what comes before all other reasons, by what the call takes
+--   41, 32, 33                   state-gate, sheet-gate, full-gate    what comes before all other reasons, by what the call takes; ram-gate too
 --   reasons from 32 up           SHEET-TOO-SHORT, .., INVALID-STATE   by number in Reason
 --   record of kind 5, none       service-report, no-report            the record is development-error
 --
@@ -98,9 +108,10 @@ pub mod Head
 pub mod Notification
 pub mod Reason
 pub mod Mode
-pub mod Format
 pub mod Core
+pub mod Format
 pub mod Configuration
+pub mod Writer
 pub mod State
 pub mod Outcome
 pub mod Services

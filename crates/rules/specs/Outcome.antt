@@ -2,6 +2,7 @@
 use Prim.Native.Nat.{ℕ}
 use mathlib.Core.Bool.{not, cond}
 use mathlib.Core.List.{List, [], _∷_}
+use mathlib.Core.Option.{Option}
 use lib.ListN.{length}
 use lib.Dec.{eqb, ltb}
 use Rattle.rules.specs.Limits.{Limits, ram-size, sheet-size}
@@ -22,6 +23,8 @@ pub data Answer : Type 0 where
   stored-in : ℕ → Answer
   unwanted : Answer
   lost : Answer
+  -- the object that sends next on a controller, or none
+  sends-next : Option ℕ → Answer
 
 -- S is the state, or the core of it
 pub record Outcome (S : Type 0) : Type 0 where
@@ -70,7 +73,7 @@ module _ (L : Limits) (F : Format) where
   abbrev pub ram-check : List ℕ → Check
   ram-check ram = WRONG-RAM-SIZE if not (eqb (length ram) (ram-size L))
 
-  -- of a call that takes neither sheet nor memory; the sheet only; both
+  -- of a call that takes neither sheet nor memory; the sheet only; both; the memory only
   unfoldable pub state-gate : State F → ℕ
   state-gate s = first-reason (state-check s ∷ [])
 
@@ -79,3 +82,6 @@ module _ (L : Limits) (F : Format) where
 
   unfoldable pub full-gate : State F → ℕ → List ℕ → ℕ
   full-gate s sheet ram = first-reason (state-check s ∷ sheet-check sheet ∷ ram-check ram ∷ [])
+
+  unfoldable pub ram-gate : State F → List ℕ → ℕ
+  ram-gate s ram = first-reason (state-check s ∷ ram-check ram ∷ [])

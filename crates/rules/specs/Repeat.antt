@@ -20,6 +20,16 @@ unfoldable pub list-below : {A : Type 0} → ℕ → (ℕ → A) → List A
 list-below zero f = []
 list-below (suc n) f = list-below n f ++ (f n ∷ [])
 
+-- the lists f 0, f 1, up to f (n - 1), one after the other
+unfoldable pub concat-below : {A : Type 0} → ℕ → (ℕ → List A) → List A
+concat-below zero f = []
+concat-below (suc n) f = concat-below n f ++ f n
+
+-- the lowest number below n of which p holds; d where it holds of none
+unfoldable pub lowest-or : ℕ → (ℕ → Bool) → ℕ → ℕ
+lowest-or zero p d = d
+lowest-or (suc n) p d = lowest-or n p (cond (p n) n d)
+
 -- n against the best so far: it must fit, and rank higher than the best if there is one
 unfoldable pub better : (ℕ → Bool) → (ℕ → ℕ) → ℕ → Option ℕ → Option ℕ
 better fits rank n none = cond (fits n) (some n) none

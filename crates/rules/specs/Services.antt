@@ -9,7 +9,7 @@ use Rattle.rules.specs.Limits.{Limits}
 use Rattle.rules.specs.Repeat.{all-below, list-below}
 use Rattle.rules.specs.Mode.{STOPPED, NO-REQUEST, permitted}
 use Rattle.rules.specs.Reason.{Check, _if_, first-reason, _then_, CAN-E-PARAM-HANDLE, CAN-E-PARAM-CONTROLLER, CAN-E-UNINIT, CAN-E-TRANSITION, NOT-STARTED, OBJECT-BUSY}
-use Rattle.rules.specs.Core.{Controller, Owner, Mailbox, Core, idle-controller, empty-mailbox, controller-at, mailbox-at, is-started, in-use, is-sending, controller-of, with-controllers, with-mailboxes}
+use Rattle.rules.specs.Core.{Controller, Owner, Mailbox, Core, idle-controller, empty-mailbox, controller-at, mailbox-at, is-started, in-use, controller-of, names-pool, free-member, with-controllers, with-mailboxes}
 use Rattle.rules.specs.Outcome.{Outcome, no-answer, mode, service-report, rejected, accepted, judged}
 
 -- the service numbers
@@ -95,14 +95,14 @@ get-controller-mode gate core ram c =
 
 -- Write
 
--- "Write: 5, 2 (not a configured sending object) .."
+-- "Write: 5, 2 (not a configured sending object) .."; 02: "Write names the pool by its lowest object; another member gives 2."
 abbrev pub sending-checks : Core → ℕ → List Check
-sending-checks core h = CAN-E-UNINIT if not (core .initialised) ∷ CAN-E-PARAM-HANDLE if not (is-sending core h) ∷ []
+sending-checks core h = CAN-E-UNINIT if not (core .initialised) ∷ CAN-E-PARAM-HANDLE if not (names-pool core h) ∷ []
 
--- ".. 35, 36."
+-- ".. 35, 36."; 02: "36 exactly if none is free", and then the free member is h itself, occupied
 abbrev pub free-checks : Core → ℕ → List Check
 free-checks core h =
-    NOT-STARTED if not (is-started (controller-of core h)) ∷ OBJECT-BUSY if mailbox-at (core .mailboxes) h .tx-pending ∷ []
+    NOT-STARTED if not (is-started (controller-of core h)) ∷ OBJECT-BUSY if mailbox-at (core .mailboxes) (free-member core h) .tx-pending ∷ []
 
 -- between them stands the reason that the frame gives
 abbrev pub write-reason : Core → ℕ → ℕ → ℕ

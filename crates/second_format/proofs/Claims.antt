@@ -1,7 +1,11 @@
 -- The theorems of laws and history for this chip and this kind of frame: each is the law itself, with nothing proved anew but `Lawful`.
 use native.Mathlib.Omega.{arith}
-use Rattle.laws.specs.WriteRule.{WriteRule}
-use Rattle.laws.proofs.WriteRule.{write-rule}
+use Rattle.laws.specs.WriteRule.{WriteRule, MemberRule, BusyRule}
+use Rattle.laws.specs.WriterRule.{ReadBackRule, OnlyBytesRule, SayRule, CannotSayRule, ShortBufferRule, BufferKeptRule, WrittenRule}
+use Rattle.laws.specs.NextRule.{NoneRule, RankRule}
+use Rattle.laws.proofs.WriteRule.{write-rule, member-rule, busy-rule}
+use Rattle.laws.proofs.WriterRule.{read-back-rule, only-bytes-rule, say-rule, cannot-say-rule, short-buffer-rule, buffer-kept-rule, written-rule}
+use Rattle.laws.proofs.NextRule.{none-rule, rank-rule}
 use Rattle.history.specs.Claim.{HistoryRule, ReferenceRule}
 use Rattle.history.specs.PollRule.{PollRule}
 use Rattle.history.specs.Demand1.{RefusalRule, ValidRule}
@@ -14,6 +18,7 @@ use Rattle.history.proofs.Operators.{others-rule, received-rule}
 use Rattle.history.proofs.Replay.{replay-rule}
 use Rattle.second_format.specs.Ranged.{ranged-format, small-chip}
 use Rattle.second_format.proofs.Lawful.{ranged-lawful}
+use Rattle.second_format.proofs.Sayable.{ranged-sayable}
 
 -- demand 1: a call that does not return 0 leaves state and memory as they were, and writes its one error record or nothing
 pub ranged-refusal-rule : RefusalRule small-chip ranged-format
@@ -50,3 +55,40 @@ ranged-received-rule = received-rule small-chip ranged-format
 -- calls that are handed one sheet, one after the other, leave what the list of them leaves
 pub ranged-replay-rule : ReplayRule small-chip ranged-format
 ranged-replay-rule = replay-rule small-chip ranged-format
+
+-- 02, Q-2: which member of its pool a write takes, and when it finds none
+pub ranged-member-rule : MemberRule small-chip ranged-format
+ranged-member-rule = member-rule small-chip ranged-format
+
+pub ranged-busy-rule : BusyRule small-chip ranged-format
+ranged-busy-rule = busy-rule small-chip ranged-format
+
+-- 02, Q-2, who sends next: when nobody does, and whose frame goes first
+pub ranged-none-rule : NoneRule small-chip ranged-format
+ranged-none-rule = none-rule small-chip ranged-format
+
+pub ranged-rank-rule : RankRule small-chip ranged-format
+ranged-rank-rule = rank-rule small-chip ranged-format
+
+-- the writer of configurations: what it wrote is read back, no other bytes of a version mean the same, a version says what some bytes of it
+-- mean; the writer gives 9 exactly for what it cannot say, 32 for a short buffer, both leaving it as it was, and bytes past its last stay
+pub ranged-read-back-rule : ReadBackRule small-chip ranged-format
+ranged-read-back-rule = read-back-rule small-chip ranged-format ranged-sayable
+
+pub ranged-only-bytes-rule : OnlyBytesRule small-chip ranged-format
+ranged-only-bytes-rule = only-bytes-rule small-chip ranged-format ranged-sayable
+
+pub ranged-say-rule : SayRule small-chip ranged-format
+ranged-say-rule = say-rule small-chip ranged-format ranged-sayable
+
+pub ranged-cannot-say-rule : CannotSayRule small-chip ranged-format
+ranged-cannot-say-rule = cannot-say-rule small-chip ranged-format ranged-sayable
+
+pub ranged-short-buffer-rule : ShortBufferRule small-chip ranged-format
+ranged-short-buffer-rule = short-buffer-rule small-chip ranged-format ranged-sayable
+
+pub ranged-buffer-kept-rule : BufferKeptRule small-chip ranged-format
+ranged-buffer-kept-rule = buffer-kept-rule small-chip ranged-format
+
+pub ranged-written-rule : WrittenRule small-chip ranged-format
+ranged-written-rule = written-rule small-chip ranged-format ranged-sayable

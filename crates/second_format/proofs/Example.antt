@@ -5,7 +5,7 @@ use mathlib.Core.List.{List, [], _∷_, _++_, map}
 use lib.ListN.{replicate}
 use native.Mathlib.Omega.{arith}
 use Rattle.rules.specs.Limits.{sheet-size, ram-size}
-use Rattle.rules.specs.Repeat.{rising, all-below, list-below, better, best-below}
+use Rattle.rules.specs.Repeat.{rising, all-below, list-below, lowest-or, better, best-below}
 use Rattle.rules.specs.Bytes.{big-endian, number, splice, same-bytes}
 use Rattle.rules.specs.Mode.{STARTED}
 use Rattle.rules.specs.Notification.{Notification, tx-confirmation, rx-indication, mode-indication, development-error}
@@ -97,5 +97,5 @@ memory =
 
 -- each call gives what stands beside it, and together they leave this memory
 pub ranged-lines : (map of-step (history small-chip ranged-format calls ram) ≡ map (λ r. r .given) table) × (left-by small-chip ranged-format calls (initial-state small-chip ranged-format) ram .ram ≡ memory)
-unfolding rising all-below list-below better best-below big-endian number splice same-bytes first-reason return-code configuration-of accepted-bytes core-valid valid judged state-gate sheet-gate full-gate init set-controller-mode write main-function-write main-function-read main-function-mode tx-complete frame-arrived services.set-controller-mode polls.main-function-write polls.main-function-read polls.main-function-mode visit-all turn-all events.tx-complete events.best-object performed trace left-by object-bytes
+unfolding rising all-below list-below lowest-or better best-below big-endian number splice same-bytes first-reason return-code configuration-of accepted-bytes core-valid valid judged state-gate sheet-gate full-gate init set-controller-mode write main-function-write main-function-read main-function-mode tx-complete frame-arrived services.set-controller-mode polls.main-function-write polls.main-function-read polls.main-function-mode visit-all turn-all events.tx-complete events.best-object performed trace left-by object-bytes
 ranged-lines = (refl, refl)

@@ -2,7 +2,7 @@
 use Prim.Native.Nat.{ℕ, _≤_, _<_, _^_}
 use mathlib.Core.Path.{_≡_, refl}
 use native.Mathlib.Omega.{arith}
-use borrow.Author.Tests.{leb-true}
+use borrow.Author.Tests.{leb-true, eqb-true}
 use lib.Dec.{leb}
 use lib.ListN.{length, length-append, length-replicate}
 use Rattle.rules.specs.Bytes.{big-endian, number}
@@ -39,4 +39,5 @@ ranged-lawful =
       written-fills = λ s handle f h. object-fills s handle f (written-short s f h);
       arrived-fills = λ s f h. object-fills s 0 f (arrived-short f h);
       handle-kept = handle-back;
+      carried-alike = λ s t f alike passed. rw (eqb-true (s .longest) (t .longest) alike) passed;
     }

@@ -1,12 +1,14 @@
 -- Frames that are filtered by ranges of identifiers.
-use Prim.Native.Nat.{ℕ, _-_}
+use Prim.Native.Nat.{ℕ, _-_, _^_}
 use mathlib.Core.Bool.{Bool, not, cond, _&&_}
 use mathlib.Core.List.{List, [], _∷_, _++_}
 use lib.ListN.{length, getD, replicate}
-use lib.Dec.{eqb, leb}
+use lib.Dec.{eqb, ltb, leb}
 use Rattle.rules.specs.Limits.{Limits}
 use Rattle.rules.specs.Bytes.{big-endian, number, part}
 use Rattle.rules.specs.Reason.{Check, _if_, CAN-E-PARAM-DATA-LENGTH, BAD-IDENTIFIER, BAD-LENGTH}
+use Rattle.rules.specs.Head.{identifier-in}
+use Rattle.rules.specs.Core.{Owner}
 use Rattle.rules.specs.Format.{Format}
 
 -- a frame: its identifier, and its data
@@ -63,13 +65,34 @@ unused-settings = record { longest = 0; lowest = 0; highest = 0 }
 abbrev pub settings-unused : Settings → Bool
 settings-unused s = eqb (s .longest) 0 && eqb (s .lowest) 0 && eqb (s .highest) 0
 
--- a record has 7 bytes: controller, kind, then longest (1), lowest (2), highest (2)
-abbrev pub settings-of : List ℕ → Settings
-settings-of r = record { longest = getD r 2 0; lowest = number (part 3 2 r); highest = number (part 5 2 r) }
+-- objects of one pool carry data of the same length
+abbrev pub settings-agree : Settings → Settings → Bool
+settings-agree s t = eqb (s .longest) (t .longest)
 
 -- the letters RNG, then version 00 02
 abbrev pub header : List ℕ
-header = 0x52 ∷ 0x4E ∷ 0x47 ∷ 0x00 ∷ 0x02 ∷ []
+header = 0x52 ∷ 0x4E ∷ 0x47 ∷ []
+
+abbrev pub known-version : ℕ → Bool
+known-version version = eqb version 2
+
+-- a record has 7 bytes: controller, kind, then longest (1), and for a receiving object lowest (2), highest (2), for a sending one zeros and
+-- its pool
+abbrev pub settings-of : ℕ → List ℕ → Settings
+settings-of version r =
+    record { longest = getD r 2 0; lowest = number (part 3 2 r); highest = cond (eqb (getD r 1 0) 0) (number (part 5 1 r ++ (0 ∷ []))) (number (part 5 2 r)) }
+
+abbrev pub pool-of : ℕ → ℕ → List ℕ → ℕ
+pool-of version h r = getD r 6 0
+
+-- each number has as many bytes as the record has for it
+abbrev pub can-say : ℕ → ℕ → Owner → Settings → Bool
+can-say version h o s =
+    ltb (o .controller) 256 && ltb (o .pool) 256 && ltb (s .longest) 256 && ltb (s .lowest) (2 ^ 16) && ltb (s .highest) (2 ^ 16)
+
+abbrev pub record-of : ℕ → Owner → Settings → List ℕ
+record-of version o s =
+    (o .controller ∷ cond (o .receiving) 1 0 ∷ s .longest ∷ []) ++ (big-endian 2 (s .lowest) ++ cond (o .receiving) (big-endian 2 (s .highest)) (0 ∷ o .pool ∷ []))
 
 -- Frames
 
@@ -92,6 +115,10 @@ arrival-checks f =
     ∷ BAD-LENGTH if not (leb (length (f .sdu)) longest-data)
     ∷ []
 
+-- the lowest identifier is sent first
+abbrev pub priority : List ℕ → ℕ
+priority bytes = last-identifier - identifier-in bytes
+
 -- all of this as a format
 abbrev pub ranged-format : Format
 ranged-format =
@@ -101,14 +128,20 @@ ranged-format =
       unused-settings = unused-settings;
       settings-unused = settings-unused;
       settings-valid = settings-valid;
+      settings-agree = settings-agree;
       header = header;
+      known-version = known-version;
       record-size = 7;
       settings-of = settings-of;
+      pool-of = pool-of;
+      can-say = can-say;
+      record-of = record-of;
       write-checks = write-checks;
       arrival-checks = arrival-checks;
       accepts = λ s f. in-range s (f .identifier);
       rank = narrowness;
       object-bytes = object-bytes;
+      priority = priority;
     }
 
 -- the limits of a small chip for such frames: an object has 8 bytes of head and 8 of data, and its length has two bytes

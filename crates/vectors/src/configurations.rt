@@ -92,6 +92,7 @@ pub fn header() {
     changed(b"version 01 01", 3, 0x01);
     changed(b"version 00 00", 4, 0x00);
     changed(b"version 00 02", 4, 0x02);
+    changed(b"version 00 03", 4, 0x03);
     changed(b"controllers 0", 5, 0);
     changed(b"controllers 1", 5, 1);
     changed(b"controllers 4", 5, 4);

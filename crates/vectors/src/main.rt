@@ -4,6 +4,7 @@ mod configurations;
 mod filters;
 mod frames;
 mod out;
+mod pools;
 
 fn main() {
     frames::lengths();
@@ -12,4 +13,5 @@ fn main() {
     configurations::records();
     configurations::sizes();
     filters::stray_bits();
+    pools::pools();
 }

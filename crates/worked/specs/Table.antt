@@ -5,7 +5,7 @@ use mathlib.Core.Path.{_≡_, refl}
 use mathlib.Core.List.{List, [], _∷_, _++_, map}
 use lib.ListN.{take, replicate}
 use Rattle.rules.specs.Limits.{sheet-size, ram-size}
-use Rattle.rules.specs.Repeat.{rising, all-below, list-below, better, best-below}
+use Rattle.rules.specs.Repeat.{rising, all-below, list-below, lowest-or, better, best-below}
 use Rattle.rules.specs.Bytes.{big-endian, number, splice, same-bytes}
 use Rattle.rules.specs.Notification.{Notification, words}
 use Rattle.rules.specs.Reason.{first-reason, return-code}
@@ -169,5 +169,5 @@ table =
 
 -- Played by the rules, each call gives its line. The first memory has the right size and holds 0xAA everywhere, which Init clears.
 pub worked-lines : played table (initial-state chip can-format) (replicate (ram-size chip) 0xAA) ≡ map (λ r. r .line) table
-unfolding played seen sheet K init-K write-P5 ask sent bus-off arrived write-poll read-poll mode-poll bus-off-poll blank laid-down words-are line _gives_ table rising all-below list-below better best-below big-endian number splice same-bytes words first-reason return-code configuration-of accepted-bytes core-valid valid judged state-gate sheet-gate full-gate init set-controller-mode write main-function-write main-function-read main-function-mode main-function-bus-off tx-complete bus-off-detected frame-arrived services.set-controller-mode polls.main-function-write polls.main-function-read polls.main-function-mode polls.main-function-bus-off visit-all turn-all events.tx-complete events.bus-off-detected events.best-object next-length lengths-below object-bytes
+unfolding played seen sheet K init-K write-P5 ask sent bus-off arrived write-poll read-poll mode-poll bus-off-poll blank laid-down words-are line _gives_ table rising all-below list-below lowest-or better best-below big-endian number splice same-bytes words first-reason return-code configuration-of accepted-bytes core-valid valid judged state-gate sheet-gate full-gate init set-controller-mode write main-function-write main-function-read main-function-mode main-function-bus-off tx-complete bus-off-detected frame-arrived services.set-controller-mode polls.main-function-write polls.main-function-read polls.main-function-mode polls.main-function-bus-off visit-all turn-all events.tx-complete events.bus-off-detected events.best-object next-length lengths-below object-bytes
 worked-lines = refl

@@ -19,14 +19,14 @@ fn spelled(line: &[u8], draft: &mut Draft) -> Option<Vec<u8>> {
         return None;
     };
     match script::read(text, &mut Vec::new()).ok()?? {
-        Command::InitInWords => Some(format!("init {}\n", hex(draft.bytes(), false)).into()),
+        Command::InitInWords => Some(format!("init {}\n", hex(&draft.bytes(), false)).into()),
         Command::Controllers { count } => {
             *draft = Draft::of(count);
             None
         }
-        Command::Object { record } => {
+        Command::Object(object) => {
             // One too many changes nothing.
-            let _ = draft.add(&record);
+            let _ = draft.add(&object);
             None
         }
         _ => None,
@@ -51,11 +51,15 @@ mod tests {
             "object receive controller 0 payload 8 code 120 mask 7FF\n",
             "init -\n",
             "init",
+            "object send controller 0 payload 64 padding CC pool 0\n",
+            "init\n",
         ];
         let mut expected = lines;
         expected[0] = "init 4348420001000000\n";
         expected[4] = "init 4348420001010100000040cc0000000000000000\n";
         expected[7] = "init 4348420001010200000040cc00000000000000000001080000000120000007ff\n";
+        expected[9] = "init 4348420002010300000040cc00000000000000000001080000000120000007ff\
+                       000040cc0000000000000000\n";
         assert_eq!(out(&night(&lines)), night(&expected));
         assert_eq!(out(&night(&lines[1..4])), night(&lines[1..4]));
     }

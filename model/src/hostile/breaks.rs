@@ -36,12 +36,13 @@ fn used_controller(rng: &mut Rng) -> RawController {
 /// An object's configuration with one number that is not zero.
 fn used_object(rng: &mut Rng) -> RawObject {
     let rest = RawObject::default();
-    match rng.below(6) {
+    match rng.below(7) {
         0 => RawObject { controller: rng.pick([1, 4, 255]), ..rest },
         1 => RawObject { receiving: true, ..rest },
-        2 => RawObject { payload: rng.pick([8, 64, 255]), ..rest },
-        3 => RawObject { padding: rng.pick([1, 255]), ..rest },
-        4 => RawObject { code: 1 << rng.below(32), ..rest },
+        2 => RawObject { pool: rng.pick([1, 31, 32, 255]), ..rest },
+        3 => RawObject { payload: rng.pick([8, 64, 255]), ..rest },
+        4 => RawObject { padding: rng.pick([1, 255]), ..rest },
+        5 => RawObject { code: 1 << rng.below(32), ..rest },
         _ => RawObject { mask: 1 << rng.below(32), ..rest },
     }
 }
@@ -105,16 +106,25 @@ pub fn objects_too_many(rng: &mut Rng, raw: &mut Raw) -> Option<()> {
     (raw.object_count == 32).then(|| raw.object_count = more)
 }
 
+/// The members of a pool still agree: all of them are on that controller.
 pub fn object_controller(rng: &mut Rng, raw: &mut Raw) -> Option<()> {
     let count = raw.controller_count as u8;
-    let h = place(rng, raw.object_count as usize, |h| !raw.mailboxes[h].occupied)?;
-    raw.objects[h].controller = rng.pick([count, count + 1, 4, 5, 128, 255]).max(count);
+    let free = |h: usize| raw.members(h).iter().all(|&h| !raw.mailboxes[h].occupied);
+    let h = place(rng, raw.object_count as usize, free)?;
+    let controller = rng.pick([count, count + 1, 4, 5, 128, 255]).max(count);
+    for h in raw.members(h) {
+        raw.objects[h].controller = controller;
+    }
     Some(())
 }
 
+/// The members of a pool still agree: all of them have that payload.
 pub fn payload(rng: &mut Rng, raw: &mut Raw) -> Option<()> {
     let h = place(rng, raw.object_count as usize, |_| true)?;
-    raw.objects[h].payload = rng.pick([0, 1, 7, 9, 12, 63, 65, 72, 128, 136, 192, 255]);
+    let payload = rng.pick([0, 1, 7, 9, 12, 63, 65, 72, 128, 136, 192, 255]);
+    for h in raw.members(h) {
+        raw.objects[h].payload = payload;
+    }
     Some(())
 }
 
@@ -164,6 +174,65 @@ pub fn stray_bit(rng: &mut Rng, raw: &mut Raw) -> Option<()> {
     let bit = 1 << rng.below(if extended { 29 } else { 11 });
     raw.objects[h].code |= bit;
     raw.objects[h].mask &= !bit;
+    Some(())
+}
+
+/// One object, or all of its pool, under a number that no pool can have.
+pub fn pool_out_of_range(rng: &mut Rng, raw: &mut Raw) -> Option<()> {
+    let h = object(rng, raw, false)?;
+    let pool = raw.objects[h].pool;
+    let other = rng.pick([32, 33, 64, 127, 128, 255, pool + 32, pool + 64, pool + 128]);
+    let members = if rng.percent(50) { raw.members(h) } else { vec![h] };
+    for h in members {
+        raw.objects[h].pool = other;
+    }
+    Some(())
+}
+
+/// Often that of a sending object.
+pub fn receiving_pool(rng: &mut Rng, raw: &mut Raw) -> Option<()> {
+    let h = object(rng, raw, true)?;
+    let other = object(rng, raw, false).map_or(0, |other| raw.objects[other].pool);
+    raw.objects[h].pool = match other {
+        0 => rng.pick([1, 2, 31, 32, 255]),
+        _ => rng.pick([other, other, other, 1, 31, 32, 255]),
+    };
+    Some(())
+}
+
+pub fn unused_pool(rng: &mut Rng, raw: &mut Raw) -> Option<()> {
+    let h = place(rng, OBJECTS, |h| raw.object_count as usize <= h)?;
+    raw.objects[h].pool = rng.pick([1, 2, h as u8, 31, 32, 255]).max(1);
+    Some(())
+}
+
+/// A member of a pool that has others.
+fn member(rng: &mut Rng, raw: &Raw, test: impl Fn(usize) -> bool) -> Option<usize> {
+    let count = raw.object_count as usize;
+    place(rng, count, |h| raw.members(h).len() > 1 && test(h))
+}
+
+/// The other controller is there, and STARTED if it must be.
+pub fn pool_controller(rng: &mut Rng, raw: &mut Raw) -> Option<()> {
+    let other = controller(rng, raw);
+    let started = raw.controllers[other].mode == 1;
+    let h = member(rng, raw, |h| {
+        usize::from(raw.objects[h].controller) != other && (started || !raw.mailboxes[h].occupied)
+    })?;
+    raw.objects[h].controller = other as u8;
+    Some(())
+}
+
+pub fn pool_payload(rng: &mut Rng, raw: &mut Raw) -> Option<()> {
+    let h = member(rng, raw, |_| true)?;
+    let place = &mut raw.objects[h];
+    place.payload = if place.payload == 8 { 64 } else { 8 };
+    Some(())
+}
+
+pub fn pool_padding(rng: &mut Rng, raw: &mut Raw) -> Option<()> {
+    let h = member(rng, raw, |_| true)?;
+    raw.objects[h].padding ^= rng.pick([1, 128, 255]);
     Some(())
 }
 

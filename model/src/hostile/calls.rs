@@ -2,7 +2,7 @@
 
 use super::case::Case;
 use super::raw::Raw;
-use crate::limits::{MEMORY_BYTES, SHEET_WORDS};
+use crate::limits::{MEMORY_BYTES, OBJECTS, SHEET_WORDS};
 use crate::nights::configs;
 use crate::nights::frames;
 use crate::nights::rng::Rng;
@@ -20,10 +20,11 @@ pub const POLL_BUS_OFF: u8 = 8;
 pub const SENT: u8 = 9;
 pub const BUS_OFF: u8 = 10;
 pub const ARRIVED: u8 = 11;
+pub const NEXT: u8 = 12;
 
 /// A case of this state with a random call.
 pub fn case(rng: &mut Rng, raw: Raw) -> Case {
-    let kind = rng.below(usize::from(ARRIVED) + 1) as u8;
+    let kind = rng.below(usize::from(NEXT) + 1) as u8;
     let identifier = identifier(rng, &raw);
     Case {
         kind,
@@ -37,13 +38,28 @@ pub fn case(rng: &mut Rng, raw: Raw) -> Case {
     }
 }
 
-/// An object or a controller, mostly one that is there.
+/// An object or a controller, mostly one that is there, and for a write mostly
+/// one that names a pool.
 fn place(rng: &mut Rng, raw: &Raw, kind: u8) -> u32 {
     if rng.one_in(12) {
         return rng.pick([4, 31, 32, 33, 255, 256, 65_536, u32::MAX]);
     }
+    if kind == WRITE && rng.percent(75) {
+        if let Some(&object) = rng.choose(&naming(raw)) {
+            return object;
+        }
+    }
     let count = if matches!(kind, WRITE | SENT) { raw.object_count } else { raw.controller_count };
     rng.below(count.clamp(1, 40) as usize) as u32
+}
+
+/// The objects in use that name a pool.
+fn naming(raw: &Raw) -> Vec<u32> {
+    let in_use = 0..OBJECTS.min(raw.object_count as usize);
+    let lowest = |&object: &usize| {
+        !raw.objects[object].receiving && raw.members(object).first() == Some(&object)
+    };
+    in_use.filter(lowest).map(|object| object as u32).collect()
 }
 
 /// An identifier, often one that an object of the state is waiting for.

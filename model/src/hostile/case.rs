@@ -70,6 +70,7 @@ impl Case {
             POLL_BUS_OFF => Call::Poll(Poll::BusOff),
             SENT => Call::Sent { object },
             BUS_OFF => Call::BusOff { controller },
+            NEXT => Call::Next { controller },
             _ => Call::Arrived { controller, identifier, data },
         }
     }

@@ -128,3 +128,58 @@ impl fmt::Display for Tally {
         )
     }
 }
+
+#[cfg(test)]
+mod tests {
+    use super::*;
+
+    /// The bytes of a case before those of its call, as `crates/hostile/src/case.rt` has them.
+    const STATE_BYTES: usize = 1 + 4 + 4 + 4 * 3 + 32 * 13 + 32 * 3;
+
+    #[test]
+    fn cases_are_laid_out_as_the_program_reads_them() {
+        for number in 0..300 {
+            let case = make(1, number);
+            let word = case.word();
+            assert_eq!(word.len(), 2 * (STATE_BYTES + 21 + case.data.len()));
+            assert_eq!(word[2 * STATE_BYTES..][..2], format!("{:02x}", case.kind));
+            for (object, raw) in case.raw.objects.iter().enumerate() {
+                let at = 2 * (21 + 13 * object);
+                let (receiving, pool) = (u8::from(raw.receiving), raw.pool);
+                let expected = format!("{:02x}{receiving:02x}{pool:02x}", raw.controller);
+                assert_eq!(word[at..][..6], expected, "object {object}");
+            }
+        }
+    }
+
+    /// What the calls of a kind answer on sound states: reason and answer.
+    fn answers(kind: u8) -> Vec<(u32, String)> {
+        let cases = (0..6000).step_by(3).map(|number| make(1, number));
+        let lines = cases.filter(|case| case.kind == kind).map(|case| case.expected());
+        let answer = |line: String| {
+            let words: Vec<&str> = line.split(' ').collect();
+            (words[1].parse().expect("a reason"), words[2].to_string())
+        };
+        lines.map(answer).collect()
+    }
+
+    #[test]
+    fn writes_to_sound_states_meet_every_reason() {
+        let met: Vec<u32> = answers(calls::WRITE).iter().map(|(reason, _)| *reason).collect();
+        for reason in [0, 2, 3, 5, 32, 33, 34, 35, 36] {
+            assert!(met.contains(&reason), "{reason} is not met: {met:?}");
+        }
+        assert!(!met.contains(&41), "a sound state is not unsound");
+    }
+
+    #[test]
+    fn who_sends_next_meets_every_answer() {
+        let met = answers(calls::NEXT);
+        for reason in [4, 5, 33] {
+            assert!(met.contains(&(reason, "-".to_string())), "{reason} is not met: {met:?}");
+        }
+        assert!(met.contains(&(0, "none".to_string())));
+        let objects = met.iter().filter(|(reason, answer)| *reason == 0 && answer != "none");
+        assert!(objects.count() > 10);
+    }
+}

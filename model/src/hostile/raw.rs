@@ -19,6 +19,7 @@ pub struct RawController {
 pub struct RawObject {
     pub controller: u8,
     pub receiving: bool,
+    pub pool: u8,
     pub payload: u8,
     pub padding: u8,
     pub code: u32,
@@ -71,6 +72,17 @@ impl Raw {
         state.is_sound().then_some(state)
     }
 
+    /// The members of the pool of an object, rising; a receiving one is alone.
+    pub fn members(&self, object: usize) -> Vec<usize> {
+        let one = self.objects[object];
+        let in_use = 0..OBJECTS.min(self.object_count as usize);
+        if one.receiving {
+            return vec![object];
+        }
+        let member = |other: &RawObject| !other.receiving && other.pool == one.pool;
+        in_use.filter(|&other| member(&self.objects[other])).collect()
+    }
+
     /// The bytes of a case that are its state.
     pub fn encode(&self, out: &mut Vec<u8>) {
         out.push(self.initialised.into());
@@ -80,7 +92,7 @@ impl Raw {
             out.extend([place.mode, place.request, place.off_bus.into()]);
         }
         for object in &self.objects {
-            out.extend([object.controller, object.receiving.into()]);
+            out.extend([object.controller, object.receiving.into(), object.pool]);
             out.extend([object.payload, object.padding]);
             out.extend(object.code.to_be_bytes());
             out.extend(object.mask.to_be_bytes());
@@ -103,6 +115,7 @@ fn raw_object(config: &ObjectConfig) -> RawObject {
     RawObject {
         controller: config.controller,
         receiving: config.kind == Kind::Receiving,
+        pool: config.pool,
         payload: config.payload,
         padding: config.padding,
         code: config.code,
@@ -114,6 +127,7 @@ fn object_config(object: &RawObject) -> ObjectConfig {
     ObjectConfig {
         controller: object.controller,
         kind: if object.receiving { Kind::Receiving } else { Kind::Sending },
+        pool: object.pool,
         payload: object.payload,
         padding: object.padding,
         code: object.code,

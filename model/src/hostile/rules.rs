@@ -32,7 +32,7 @@ const fn rule(wrong: &'static str, breaks: Break) -> Rule {
 }
 
 /// Every rule.
-pub const RULES: [Rule; 27] = [
+pub const RULES: [Rule; 33] = [
     rule("uninitialised, but configured", uninitialised),
     rule("uninitialised, but a count is not zero", uninitialised_count),
     rule("uninitialised, but a controller is not at rest", uninitialised_controller),
@@ -49,6 +49,12 @@ pub const RULES: [Rule; 27] = [
     rule("mask bit 31, 30 or 29 set", mask_bits),
     rule("a standard filter with bits above 10", standard_bits),
     rule("a code bit outside the mask", stray_bit),
+    rule("a pool number above 31", pool_out_of_range),
+    rule("a pool on a receiving object", receiving_pool),
+    rule("a pool on an unused object", unused_pool),
+    rule("a pool on two controllers", pool_controller),
+    rule("a pool with two payloads", pool_payload),
+    rule("a pool with two paddings", pool_padding),
     rule("mode 0 on a configured controller", mode_uninit),
     rule("a mode above 3", mode_unknown),
     rule("a request that is not permitted", request),

@@ -75,6 +75,7 @@ fn random_object(rng: &mut Rng) -> RawObject {
     RawObject {
         controller: number(rng, 5) as u8,
         receiving: rng.percent(50),
+        pool: number(rng, 33) as u8,
         payload: if rng.percent(90) { rng.pick([8, 64]) } else { rng.word() as u8 },
         padding: number(rng, 2) as u8,
         code: if rng.percent(80) { 0 } else { rng.word() },

@@ -4,7 +4,7 @@ use super::frames::{
     arriving_length, bytes_words, fitting_identifier, good_identifier, handle, identifier_word,
     number_word, random_bytes_words, written_length,
 };
-use super::{configs, said, Maker, Style};
+use super::{configs, pools, said, Maker, Style};
 use crate::config::{Config, Kind, ObjectConfig};
 use crate::identifier::FD;
 use crate::limits::OBJECTS;
@@ -23,12 +23,13 @@ enum Action {
     PollBusOff,
     Set,
     Get,
+    Next,
     BusOff,
     Look,
     BadMoment,
 }
 
-const ACTIONS: [(usize, Action); 12] = [
+const ACTIONS: [(usize, Action); 13] = [
     (240, Action::Write),
     (170, Action::Sent),
     (190, Action::Arrived),
@@ -38,6 +39,7 @@ const ACTIONS: [(usize, Action); 12] = [
     (20, Action::PollBusOff),
     (70, Action::Set),
     (30, Action::Get),
+    (40, Action::Next),
     (6, Action::BusOff),
     (40, Action::Look),
     (30, Action::BadMoment),
@@ -85,12 +87,13 @@ impl Maker {
         if self.rng.percent(70) {
             return self.init();
         }
-        match self.rng.below(6) {
+        match self.rng.below(7) {
             0 => "deinit".to_string(),
             1 => format!("get {}", self.rng.below(4)),
             2 => format!("set {} STARTED", self.rng.below(4)),
             3 => format!("poll {}", self.rng.pick(["write", "read", "mode", "busoff"])),
             4 => format!("sent {}", self.rng.below(32)),
+            5 => format!("next {}", self.rng.below(4)),
             _ => self.look(),
         }
     }
@@ -112,7 +115,7 @@ impl Maker {
         let in_words = match self.style {
             Style::Calm => self.rng.percent(30),
             // The more lines it takes the rarer it is.
-            Style::Wild => self.rng.one_in(2 + bytes.len() / 12),
+            Style::Wild => self.rng.one_in(2 + bytes.len() / 20),
         };
         if in_words && self.coming.is_empty() {
             if let Some(lines) = said::lines(&mut self.rng, bytes) {
@@ -125,12 +128,12 @@ impl Maker {
     /// The configuration said in words before, if it is a good one, at times with
     /// another object.
     fn init_again(&mut self) -> Option<String> {
-        let config = Config::read(self.bench().draft().bytes())?;
+        let config = Config::read(&self.bench().draft().bytes())?;
         if config.objects().len() == OBJECTS || self.rng.percent(60) {
             return Some("init".to_string());
         }
-        let record = configs::record(&mut self.rng, config.controllers(), 50);
-        let line = said::object(&mut self.rng, &record)?;
+        let object = pools::one_more(&mut self.rng, &config);
+        let line = said::object(&mut self.rng, &object)?;
         Some(self.first_of(vec![line, "init".to_string()]))
     }
 
@@ -174,6 +177,7 @@ impl Maker {
             Action::PollBusOff => self.poll_bus_off(),
             Action::Set => self.set_permitted(),
             Action::Get => self.get(),
+            Action::Next => self.next_to_send(),
             Action::BusOff => self.bus_off(),
             Action::Look => Some(self.look()),
             Action::BadMoment => Some(self.bad_moment()),
@@ -206,13 +210,41 @@ impl Maker {
         self.state().config.object(object).copied()
     }
 
-    /// A frame that fits a free sending object of a STARTED controller.
+    /// A frame that fits a pool with a free member, on a STARTED controller.
     fn write_free(&mut self) -> Option<String> {
         let free = self.objects_where(|config, place, controller| {
             config.kind == Kind::Sending && !place.occupied && controller.mode == Mode::Started
         });
         let object = *self.rng.choose(&free)?;
-        self.write_to(object)
+        self.write_to(self.lowest(object))
+    }
+
+    /// The members of the pool of an object, rising; none if it is not configured
+    /// or receives.
+    fn members(&self, object: u32) -> Vec<u32> {
+        let config = &self.state().config;
+        let sending = config.object(object).filter(|config| config.kind == Kind::Sending);
+        let pool = sending.map(|sending| config.members(sending.pool));
+        pool.into_iter().flatten().map(|member| member as u32).collect()
+    }
+
+    /// The object that names the pool of this one; itself if it is in none.
+    pub(super) fn lowest(&self, object: u32) -> u32 {
+        self.members(object).first().copied().unwrap_or(object)
+    }
+
+    /// As many frames as a pool takes, and one more; the first of them.
+    fn fill_pool(&mut self) -> Option<String> {
+        let started = self.objects_where(|config, _, controller| {
+            config.kind == Kind::Sending && controller.mode == Mode::Started
+        });
+        let object = *self.rng.choose(&started)?;
+        let members = self.members(object);
+        let lowest = *members.first()?;
+        let places = &self.state().objects;
+        let free = members.iter().filter(|&&member| !places[member as usize].occupied).count();
+        let lines: Option<Vec<String>> = (0..=free).map(|_| self.write_to(lowest)).collect();
+        Some(self.first_of(lines?))
     }
 
     /// A fitting frame for a configured object, free or not.
@@ -305,22 +337,50 @@ impl Maker {
         Some(format!("get {}", number_word(&mut self.rng, controller)))
     }
 
+    /// Who sends next, on a controller for which a frame waits; rarer on others.
+    pub(super) fn next_to_send(&mut self) -> Option<String> {
+        let waiting = self.objects_where(|_, place, _| place.occupied && !place.gone);
+        let waiting = self.rng.choose(&waiting).and_then(|&object| self.object_config(object));
+        let all = self.controllers_where(|_| true);
+        let controller = match waiting {
+            Some(config) => config.controller.into(),
+            None if self.rng.one_in(8) => *self.rng.choose(&all)?,
+            None => return None,
+        };
+        Some(format!("next {}", number_word(&mut self.rng, controller)))
+    }
+
     fn bus_off(&mut self) -> Option<String> {
         let running = self.controllers_where(|place| place.mode == Mode::Started && !place.off_bus);
         Some(format!("busoff {}", self.rng.choose(&running)?))
     }
 
-    /// Data, show and state, which change nothing.
+    /// Data, show, state and the writer, which change nothing.
     fn look(&mut self) -> String {
         match self.rng.below(10) {
             0 => "state".to_string(),
             1 | 2 => format!("show {}", self.rng.below(33)),
+            3 => self.config_with_room(),
             _ => format!("data {}", self.rng.below(32)),
         }
     }
 
+    /// The bytes that the state's configuration takes.
+    pub(super) fn config_bytes(&self) -> usize {
+        8 + 12 * self.state().config.objects().len()
+    }
+
+    /// The writer with a known version, mostly the second, and room enough.
+    fn config_with_room(&mut self) -> String {
+        let version = if self.rng.percent(80) { 2 } else { 1 };
+        let bytes = self.config_bytes();
+        let room = self.rng.pick([bytes, bytes, bytes + 1, bytes + 12, 392, 4096]);
+        format!("config {version} {}", number_word(&mut self.rng, room as u32))
+    }
+
     /// A sensible call at a moment when it may well be refused: a restart in
-    /// mid-flight, a second write, a sent or bus-off out of turn.
+    /// mid-flight, a write to a full pool or to a member that does not name it, a
+    /// sent or bus-off out of turn.
     fn bad_moment(&mut self) -> String {
         let object = self.rng.below(32) as u32;
         let controller = self.rng.below(4);
@@ -331,7 +391,11 @@ impl Maker {
             3 => format!("busoff {controller}"),
             4 => format!("sent {object}"),
             5 => format!("arrived {controller} 120 {}", random_bytes_words(&mut self.rng, 8)),
-            _ => self.write_to(object).unwrap_or_else(|| format!("sent {object}")),
+            6 => self.fill_pool().unwrap_or_else(|| "poll write".to_string()),
+            _ => {
+                let named = if self.rng.percent(50) { object } else { self.lowest(object) };
+                self.write_to(named).unwrap_or_else(|| format!("sent {object}"))
+            }
         }
     }
 }

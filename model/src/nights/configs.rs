@@ -1,32 +1,44 @@
 //! Random configuration bytes, good ones and broken ones.
 
 use super::frames::identifier_bits;
+use super::pools;
 use super::rng::Rng;
 use crate::draft::Record;
 use crate::identifier::EXTENDED;
+use crate::version::Version;
 
-const HEADER: usize = 8;
-const RECORD: usize = 12;
-const SENDING: u8 = 0;
-const RECEIVING: u8 = 1;
+pub const HEADER: usize = 8;
+pub const RECORD: usize = 12;
+pub const SENDING: u8 = 0;
+pub const RECEIVING: u8 = 1;
 
-/// A configuration that Init accepts.
+/// A configuration that Init accepts, of version 1 or 2.
 pub fn good(rng: &mut Rng) -> Vec<u8> {
+    let version = if rng.percent(40) { Version::One } else { Version::Two };
     let controllers = rng.between(1, 4);
     let objects = match rng.below(10) {
         0 => rng.between(0, 1),
         1 | 2 => 32,
         _ => rng.between(2, 32),
     };
-    let mut bytes = vec![0x43, 0x48, 0x42, 0, 1, controllers as u8, objects as u8, 0];
+    let mut bytes = header(version, controllers as u8, objects as u8);
     let receiving_percent = rng.pick([50, 50, 50, 20, 80, 0, 100]);
     for _ in 0..objects {
         bytes.extend(record(rng, controllers, receiving_percent));
     }
+    if version == Version::Two {
+        pools::gather(rng, &mut bytes[HEADER..]);
+    }
     bytes
 }
 
-/// A good record for one of so many controllers.
+fn header(version: Version, controllers: u8, objects: u8) -> Vec<u8> {
+    let mut bytes = version.start().to_vec();
+    bytes.extend([controllers, objects, 0]);
+    bytes
+}
+
+/// A good record of version 1 for one of so many controllers.
 pub fn record(rng: &mut Rng, controllers: usize, receiving_percent: usize) -> Record {
     let controller = rng.below(controllers) as u8;
     let payload = rng.pick([8, 64]);
@@ -64,7 +76,7 @@ fn filter(rng: &mut Rng) -> (u32, u32) {
 pub fn broken(rng: &mut Rng) -> Vec<u8> {
     let mut bytes = good(rng);
     let objects = usize::from(bytes[6]);
-    match rng.below(if objects > 0 { 13 } else { 7 }) {
+    match rng.below(if objects > 0 { 17 } else { 8 }) {
         0 => flip(rng, &mut bytes, 0, 5),
         1 => bytes[5] = rng.pick([0, 5, 6, 128, 255]),
         2 => bytes[6] = rng.pick([0, 1, 31, 32, 33, 64, 255]),
@@ -72,6 +84,8 @@ pub fn broken(rng: &mut Rng) -> Vec<u8> {
         4 => shorten(rng, &mut bytes),
         5 => lengthen(rng, &mut bytes),
         6 => bytes = nonsense(rng),
+        7 => break_version(rng, &mut bytes),
+        8 | 9 => pools::disagree(rng, &mut bytes),
         field => {
             let start = HEADER + RECORD * rng.below(objects);
             break_record(rng, &mut bytes[start..start + RECORD], field);
@@ -80,14 +94,22 @@ pub fn broken(rng: &mut Rng) -> Vec<u8> {
     bytes
 }
 
+/// Another version, often the other known one: what the records say then may be good.
+fn break_version(rng: &mut Rng, bytes: &mut [u8]) {
+    let other = 3 - u16::from(bytes[4]);
+    let version = rng.pick([other, other, 0, 3, 4, 255, 256, 257, 258, 513, 514, u16::MAX]);
+    bytes[3..5].copy_from_slice(&version.to_be_bytes());
+}
+
 /// Breaks one field of one record.
 fn break_record(rng: &mut Rng, record: &mut [u8], field: usize) {
     match field {
-        7 => record[0] = rng.pick([1, 2, 3, 4, 5, 255]),
-        8 => record[1] = rng.pick([0, 1, 2, 3, 128, 255]),
-        9 => record[2] = rng.pick([0, 1, 7, 9, 16, 63, 65, 72, 128, 255]),
-        10 => record[3] = rng.byte(),
-        11 => stray(rng, record),
+        10 => record[0] = rng.pick([1, 2, 3, 4, 5, 255]),
+        11 => record[1] = rng.pick([0, 1, 2, 3, 128, 255]),
+        12 => record[2] = rng.pick([0, 1, 7, 9, 16, 63, 65, 72, 128, 255]),
+        13 => record[3] = rng.byte(),
+        14 => stray(rng, record),
+        15 => record[pools::POOL] = rng.pick([1, 31, 32, 33, 64, 128, 255]),
         _ => flip(rng, record, 4, 8),
     }
 }
@@ -127,7 +149,8 @@ fn nonsense(rng: &mut Rng) -> Vec<u8> {
         return rng.bytes(length);
     }
     let objects = rng.pick([33, 34, 64, 255]);
-    let mut bytes = vec![0x43, 0x48, 0x42, 0, 1, 4, objects, 0];
+    let version = rng.pick([Version::One, Version::Two]);
+    let mut bytes = header(version, 4, objects);
     for _ in 0..objects {
         bytes.extend([0, SENDING, 8, 0, 0, 0, 0, 0, 0, 0, 0, 0]);
     }
@@ -145,5 +168,28 @@ mod tests {
         assert!((0..5000).all(|_| Config::read(&good(&mut rng)).is_some()));
         let bad = (0..5000).filter(|_| Config::read(&broken(&mut rng)).is_none()).count();
         assert!(bad > 3500, "{bad} of 5000 are bad");
+    }
+
+    #[test]
+    fn good_ones_have_pools_of_every_kind() {
+        let mut rng = Rng::new(2);
+        let (mut alone, mut several, mut above, mut two_pools) = (0, 0, 0, 0);
+        for _ in 0..500 {
+            let config = Config::read(&good(&mut rng)).expect("a good one");
+            let sizes: Vec<usize> = (0..32).map(|pool| config.members(pool).count()).collect();
+            let count = config.objects().len();
+            alone += usize::from(sizes.iter().all(|&size| size <= 1));
+            several += usize::from(sizes.iter().any(|&size| size > 2));
+            above += usize::from(sizes[count..].iter().any(|&size| size > 0));
+            two_pools += usize::from(sizes.iter().filter(|&&size| size > 1).count() > 1);
+        }
+        for (what, number) in [
+            ("no pool of several", alone),
+            ("a pool of several", several),
+            ("a pool number above the count", above),
+            ("two pools of several", two_pools),
+        ] {
+            assert!(number > 75, "{what}: {number} of 500");
+        }
     }
 }

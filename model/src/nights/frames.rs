@@ -21,11 +21,14 @@ pub fn identifier_bits(extended: bool) -> u32 {
 /// A good identifier; FD as asked for.
 pub fn good_identifier(rng: &mut Rng, fd: bool) -> u32 {
     let extended = rng.percent(40);
-    let bits = match rng.below(8) {
+    let bits = match rng.below(9) {
         0 => 0,
         1 => u32::MAX,
         2 => 1 << rng.below(32),
         3 => rng.word() & 0xF | 0x120,
+        // One of two base identifiers, so that a choice goes by what follows.
+        4 if extended => (0x120 | rng.word() & 1) << 18 | rng.word() & 3,
+        4 => 0x120 | rng.word() & 1,
         _ => rng.word(),
     };
     bits & identifier_bits(extended) | if extended { EXTENDED } else { 0 } | if fd { FD } else { 0 }

@@ -6,6 +6,7 @@
 mod calm;
 pub(crate) mod configs;
 pub(crate) mod frames;
+mod pools;
 pub(crate) mod rng;
 mod said;
 mod strange;

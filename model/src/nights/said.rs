@@ -1,12 +1,12 @@
 //! Configurations said in words, a line for each object, and object lines that
 //! are wrong in one way or another.
 
+use super::configs::{HEADER, RECEIVING, RECORD, SENDING};
 use super::frames::{hex, identifier_word, number_word};
+use super::pools::POOL;
 use super::rng::Rng;
-use crate::config::START;
-
-const HEADER: usize = 8;
-const RECORD: usize = 12;
+use crate::draft::{DraftObject, Record};
+use crate::version::Version;
 
 /// Words that stand somewhere in an object line, or nearly so.
 const WORDS: &[&str] = &[
@@ -21,6 +21,10 @@ const WORDS: &[&str] = &[
     "code",
     "mask",
     "MASK",
+    "pool",
+    "pools",
+    "31",
+    "32",
     "-",
     "x",
     "0",
@@ -47,16 +51,45 @@ const WORDS: &[&str] = &[
 /// The lines that say these bytes and hand them to Init; `None` if words cannot.
 pub fn lines(rng: &mut Rng, bytes: &[u8]) -> Option<Vec<String>> {
     let (header, records) = bytes.split_at_checked(HEADER)?;
+    let version = Version::of_start(&header[..5])?;
     let counted = records.len() == RECORD * usize::from(header[6]);
-    if header[..5] != START || header[7] != 0 || !counted {
+    if header[7] != 0 || !counted {
         return None;
     }
+    let mut objects: Vec<DraftObject> = records.chunks_exact(RECORD).map(bare).collect();
+    if version == Version::Two {
+        say_pools(rng, &mut objects)?;
+    }
     let mut lines = vec![controllers(rng, header[5])];
-    for record in records.chunks_exact(RECORD) {
-        lines.push(object(rng, record)?);
+    for said in objects {
+        lines.push(object(rng, &said)?);
     }
     lines.push("init".to_string());
     Some(lines)
+}
+
+/// An object with this record that says no pool.
+fn bare(record: &[u8]) -> DraftObject {
+    let mut whole: Record = [0; RECORD];
+    whole.copy_from_slice(record);
+    DraftObject { record: whole, pool: None }
+}
+
+/// Takes the pools of version 2 out of the records. One sending object at least
+/// says its pool; others need not where it is their own number.
+fn say_pools(rng: &mut Rng, objects: &mut [DraftObject]) -> Option<()> {
+    let mut sending: Vec<usize> = (0..objects.len()).collect();
+    sending.retain(|&number| objects[number].record[1] == SENDING);
+    let always = *rng.choose(&sending)?;
+    let silent = rng.pick([0, 50, 100]);
+    for number in sending {
+        let pool = std::mem::take(&mut objects[number].record[POOL]);
+        let own = usize::from(pool) == number;
+        if number == always || !own || !rng.percent(silent) {
+            objects[number].pool = Some(pool);
+        }
+    }
+    Some(())
 }
 
 /// The line that begins a configuration.
@@ -64,19 +97,23 @@ pub fn controllers(rng: &mut Rng, count: u8) -> String {
     format!("controllers {}", number_word(rng, count.into()))
 }
 
-/// The line for this record; `None` if words cannot say it.
-pub fn object(rng: &mut Rng, record: &[u8]) -> Option<String> {
+/// The line for this object; `None` if words cannot say it.
+pub fn object(rng: &mut Rng, DraftObject { record, pool }: &DraftObject) -> Option<String> {
     let place = format!(
         "controller {} payload {}",
         number_word(rng, record[0].into()),
         number_word(rng, record[2].into())
     );
     match record[1] {
-        0 if record[4..] == [0; 8] => {
+        SENDING if record[4..] == [0; 8] => {
             let padding = hex(&record[3..4], rng.percent(50));
-            Some(format!("object send {place} padding {padding}"))
+            let mut line = format!("object send {place} padding {padding}");
+            if let Some(pool) = *pool {
+                line += &format!(" pool {}", number_word(rng, pool.into()));
+            }
+            Some(line)
         }
-        1 if record[3] == 0 => {
+        RECEIVING if record[3] == 0 => {
             let (code, mask) = (big_endian(&record[4..8]), big_endian(&record[8..]));
             let code = identifier_word(rng, code);
             let mask = identifier_word(rng, mask);
@@ -90,15 +127,17 @@ pub fn object(rng: &mut Rng, record: &[u8]) -> Option<String> {
 pub fn any_object(rng: &mut Rng) -> String {
     let controller = rng.pick([0, 0, 1, 2, 3, 4, 255]);
     let payload = rng.pick([8, 8, 64, 64, 0, 9, 63, 255]);
-    let mut record = [controller, 0, payload, 0, 0, 0, 0, 0, 0, 0, 0, 0];
+    let mut record = [controller, SENDING, payload, 0, 0, 0, 0, 0, 0, 0, 0, 0];
+    let mut pool = None;
     if rng.percent(50) {
         record[3] = rng.byte();
+        pool = Some(rng.pick([0, 1, 2, 7, 30, 31, 32, 33, 64, 255])).filter(|_| rng.percent(40));
     } else {
-        record[1] = 1;
+        record[1] = RECEIVING;
         record[4..8].copy_from_slice(&any_filter(rng).to_be_bytes());
         record[8..].copy_from_slice(&any_filter(rng).to_be_bytes());
     }
-    object(rng, &record).unwrap_or_default()
+    object(rng, &DraftObject { record, pool }).unwrap_or_default()
 }
 
 fn any_filter(rng: &mut Rng) -> u32 {
@@ -155,8 +194,8 @@ mod tests {
         for line in lines {
             match read(line.as_bytes(), &mut Vec::new()) {
                 Ok(Some(Command::Controllers { count })) => draft = Draft::of(count),
-                Ok(Some(Command::Object { record })) => draft.add(&record).expect("room"),
-                Ok(Some(Command::InitInWords)) => return draft.bytes().to_vec(),
+                Ok(Some(Command::Object(object))) => draft.add(&object).expect("room"),
+                Ok(Some(Command::InitInWords)) => return draft.bytes(),
                 other => panic!("{line}: {other:?}"),
             }
         }
@@ -166,11 +205,21 @@ mod tests {
     #[test]
     fn lines_say_the_bytes() {
         let mut rng = Rng::new(5);
-        for _ in 0..200 {
+        let (mut pools, mut silent) = (0, 0);
+        for _ in 0..400 {
             let bytes = configs::good(&mut rng);
-            let lines = lines(&mut rng, &bytes).expect("a good one can be said");
+            let Some(lines) = lines(&mut rng, &bytes) else {
+                // A pool can only be said of an object that sends.
+                assert!(bytes[4] == 2 && bytes[8..].chunks(12).all(|record| record[1] == 1));
+                continue;
+            };
             assert_eq!(handed(&lines), bytes);
+            let send = lines.iter().filter(|line| line.starts_with("object send "));
+            let (said, unsaid): (Vec<_>, Vec<_>) = send.partition(|line| line.contains(" pool "));
+            pools += usize::from(!said.is_empty());
+            silent += usize::from(!said.is_empty() && !unsaid.is_empty());
         }
+        assert!(pools > 100 && silent > 10, "{pools} with pools, {silent} also without");
         let mut said = 0;
         for _ in 0..1000 {
             let bytes = configs::broken(&mut rng);

@@ -136,7 +136,7 @@ impl Maker {
             let lines = said::crowd(&mut self.rng);
             return self.first_of(lines);
         }
-        match self.rng.below(25) {
+        match self.rng.below(27) {
             0 => self.init_with_any(),
             1 if self.rng.percent(50) => "deinit".to_string(),
             1 => self.init_with_any(),
@@ -153,6 +153,9 @@ impl Maker {
             21 => format!("data {}", self.any_object()),
             22 => format!("show {}", self.any_object()),
             23 => self.any_words(),
+            24 if self.rng.percent(60) => self.next_to_send().unwrap_or("next 0".to_string()),
+            24 => format!("next {}", self.any_controller()),
+            25 => self.any_config(),
             _ => "state".to_string(),
         }
     }
@@ -180,9 +183,33 @@ impl Maker {
         }
     }
 
-    /// Any length from 0 to 70 and any identifier, good or not.
+    /// The writer with any version and any room, mostly around what it takes.
+    fn any_config(&mut self) -> String {
+        let version = match self.rng.below(8) {
+            0 => self.rng.pick([0, 3, 4, 255, 256, 257, 258, 513, 65_537, 65_538, u32::MAX]),
+            1 => self.rng.word(),
+            2..=4 => 1,
+            _ => 2,
+        };
+        let bytes = self.config_bytes();
+        let room = match self.rng.below(4) {
+            0 => self.rng.pick([0, 1, 7, 8, 9, 20, 391, 392, 393, 4095, 4096]),
+            1 => self.rng.below(4097),
+            _ => self.rng.pick([bytes - 1, bytes, bytes, bytes + 1, bytes - 8, bytes + 12]),
+        };
+        let version = number_word(&mut self.rng, version);
+        format!("config {version} {}", number_word(&mut self.rng, room as u32))
+    }
+
+    /// Any length from 0 to 70 and any identifier, good or not; often to an object
+    /// that names a pool.
     fn any_write(&mut self) -> String {
-        let object = self.any_object();
+        let object = if self.rng.percent(40) {
+            let object = self.rng.below(32) as u32;
+            self.lowest(object).to_string()
+        } else {
+            self.any_object()
+        };
         let handle = self.rng.below(65_536);
         let identifier = self.any_identifier();
         let length = self.rng.between(0, 70);

@@ -51,6 +51,9 @@ enum-told-11 c = search needs
 enum-told-12 : tie.Need-enum-told-12
 enum-told-12 c = search needs
 
+enum-told-13 : tie.Need-enum-told-13
+enum-told-13 c = search needs
+
 returns : tie.Need-returns
 returns c =
     rw (c .enum-told .given .1)
@@ -99,6 +102,10 @@ returns-12 : tie.Need-returns-12
 returns-12 c =
     rw (c .enum-told12 .given .1)
 
+returns-13 : tie.Need-returns-13
+returns-13 c =
+    rw (c .enum-told13 .given .1)
+
 pub numbers-spec : {M : Type 1} → statement M
 numbers-spec =
     tie.close
@@ -119,6 +126,7 @@ numbers-spec =
     enum-told-10
     enum-told-11
     enum-told-12
+    enum-told-13
     returns
     returns-2
     returns-3
@@ -130,4 +138,5 @@ numbers-spec =
     returns-9
     returns-10
     returns-11
-    returns-12)
+    returns-12
+    returns-13)

@@ -84,6 +84,12 @@ enum-known-command-7 c = search needs
 call-requires-11 : tie.Need-call-requires-11
 call-requires-11 c κs = search needs
 
+enum-known-command-8 : tie.Need-enum-known-command-8
+enum-known-command-8 c = search needs
+
+call-requires-12 : tie.Need-call-requires-12
+call-requires-12 c κs = search needs
+
 enum-told-6 : tie.Need-enum-told-6
 enum-told-6 c = search needs
 
@@ -116,6 +122,12 @@ enum-told-15 c = search needs
 
 enum-told-16 : tie.Need-enum-told-16
 enum-told-16 c = search needs
+
+enum-told-17 : tie.Need-enum-told-17
+enum-told-17 c = search needs
+
+enum-told-18 : tie.Need-enum-told-18
+enum-told-18 c = search needs
 
 returns : tie.Need-returns
 returns c = arm (c .before .before .command .given .1) (ap Call (c .init .ensures))
@@ -154,37 +166,46 @@ returns-12 : tie.Need-returns-12
 returns-12 c = arm (c .before .before .command7 .given .1) (c .call11 .ensures)
 
 returns-13 : tie.Need-returns-13
-returns-13 c = arm (c .enum-told6 .given .1) refl
+returns-13 c = arm (c .before .before .command8 .given .1) (c .call12 .ensures)
 
 returns-14 : tie.Need-returns-14
-returns-14 c = arm (c .enum-told7 .given .1) refl
+returns-14 c = arm (c .enum-told6 .given .1) refl
 
 returns-15 : tie.Need-returns-15
-returns-15 c = arm (c .enum-told8 .given .1) refl
+returns-15 c = arm (c .enum-told7 .given .1) refl
 
 returns-16 : tie.Need-returns-16
-returns-16 c = arm (c .enum-told9 .given .1) refl
+returns-16 c = arm (c .enum-told8 .given .1) refl
 
 returns-17 : tie.Need-returns-17
-returns-17 c = arm (c .enum-told10 .given .1) refl
+returns-17 c = arm (c .enum-told9 .given .1) refl
 
 returns-18 : tie.Need-returns-18
-returns-18 c = arm (c .enum-told11 .given .1) refl
+returns-18 c = arm (c .enum-told10 .given .1) refl
 
 returns-19 : tie.Need-returns-19
-returns-19 c = arm (c .enum-told12 .given .1) refl
+returns-19 c = arm (c .enum-told11 .given .1) refl
 
 returns-20 : tie.Need-returns-20
-returns-20 c = arm (c .enum-told13 .given .1) refl
+returns-20 c = arm (c .enum-told12 .given .1) refl
 
 returns-21 : tie.Need-returns-21
-returns-21 c = arm (c .enum-told14 .given .1) refl
+returns-21 c = arm (c .enum-told13 .given .1) refl
 
 returns-22 : tie.Need-returns-22
-returns-22 c = arm (c .enum-told15 .given .1) refl
+returns-22 c = arm (c .enum-told14 .given .1) refl
 
 returns-23 : tie.Need-returns-23
-returns-23 c = arm (c .enum-told16 .given .1) refl
+returns-23 c = arm (c .enum-told15 .given .1) refl
+
+returns-24 : tie.Need-returns-24
+returns-24 c = arm (c .enum-told16 .given .1) refl
+
+returns-25 : tie.Need-returns-25
+returns-25 c = arm (c .enum-told17 .given .1) refl
+
+returns-26 : tie.Need-returns-26
+returns-26 c = arm (c .enum-told18 .given .1) refl
 
 pub request-of-spec : {M : Type 1} → statement M
 request-of-spec =
@@ -214,6 +235,8 @@ request-of-spec =
     call-requires-10
     enum-known-command-7
     call-requires-11
+    enum-known-command-8
+    call-requires-12
     enum-told-6
     enum-told-7
     enum-told-8
@@ -225,6 +248,8 @@ request-of-spec =
     enum-told-14
     enum-told-15
     enum-told-16
+    enum-told-17
+    enum-told-18
     returns
     returns-2
     returns-3
@@ -247,4 +272,7 @@ request-of-spec =
     returns-20
     returns-21
     returns-22
-    returns-23)
+    returns-23
+    returns-24
+    returns-25
+    returns-26)

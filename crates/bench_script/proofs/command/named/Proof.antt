@@ -77,14 +77,20 @@ with-number-requires-4 c κs = search needs
 enum-told-11 : tie.Need-enum-told-11
 enum-told-11 c = search needs
 
+with-number-requires-5 : tie.Need-with-number-requires-5
+with-number-requires-5 c κs = search needs
+
+enum-told-12 : tie.Need-enum-told-12
+enum-told-12 c = search needs
+
 cast-with-limited : tie.Need-cast-with-limited
 cast-with-limited c = search needs
 
 with-limited-requires : tie.Need-with-limited-requires
 with-limited-requires c κs = search needs
 
-enum-told-12 : tie.Need-enum-told-12
-enum-told-12 c = search needs
+enum-told-13 : tie.Need-enum-told-13
+enum-told-13 c = search needs
 
 cast-with-limited-2 : tie.Need-cast-with-limited-2
 cast-with-limited-2 c = search needs
@@ -92,29 +98,35 @@ cast-with-limited-2 c = search needs
 with-limited-requires-2 : tie.Need-with-limited-requires-2
 with-limited-requires-2 c κs = search needs
 
-enum-told-13 : tie.Need-enum-told-13
-enum-told-13 c = search needs
-
-with-number-requires-5 : tie.Need-with-number-requires-5
-with-number-requires-5 c κs = search needs
-
 enum-told-14 : tie.Need-enum-told-14
 enum-told-14 c = search needs
+
+with-number-requires-6 : tie.Need-with-number-requires-6
+with-number-requires-6 c κs = search needs
 
 enum-told-15 : tie.Need-enum-told-15
 enum-told-15 c = search needs
 
+enum-told-16 : tie.Need-enum-told-16
+enum-told-16 c = search needs
+
+config-requires : tie.Need-config-requires
+config-requires c κs = search needs
+
+enum-told-17 : tie.Need-enum-told-17
+enum-told-17 c = search needs
+
 with-limited-requires-3 : tie.Need-with-limited-requires-3
 with-limited-requires-3 c κs = search needs
 
-enum-told-16 : tie.Need-enum-told-16
-enum-told-16 c = search needs
+enum-told-18 : tie.Need-enum-told-18
+enum-told-18 c = search needs
 
 object-requires : tie.Need-object-requires
 object-requires c κs = search needs
 
-enum-told-17 : tie.Need-enum-told-17
-enum-told-17 c = search needs
+enum-told-19 : tie.Need-enum-told-19
+enum-told-19 c = search needs
 
 returns : tie.Need-returns
 unfolding named
@@ -158,31 +170,39 @@ returns-10 c = arm (c .before .before .before .before .args .text .now) (c .befo
 
 returns-11 : tie.Need-returns-11
 unfolding named
-returns-11 c = arm (c .before .before .before .before .args .text .now) (c .before .enum-told11 .given .1) (quiet (c .with-limited .ensures))
+returns-11 c = arm (c .before .before .before .before .args .text .now) (c .before .enum-told11 .given .1) (quiet (c .with-number5 .ensures))
 
 returns-12 : tie.Need-returns-12
 unfolding named
-returns-12 c = arm (c .before .before .before .before .args .text .now) (c .before .enum-told12 .given .1) (quiet (c .with-limited2 .ensures))
+returns-12 c = arm (c .before .before .before .before .args .text .now) (c .before .enum-told12 .given .1) (quiet (c .with-limited .ensures))
 
 returns-13 : tie.Need-returns-13
 unfolding named
-returns-13 c = arm (c .before .before .before .before .args .text .now) (c .before .enum-told13 .given .1) (quiet (c .with-number5 .ensures))
+returns-13 c = arm (c .before .before .before .before .args .text .now) (c .before .enum-told13 .given .1) (quiet (c .with-limited2 .ensures))
 
 returns-14 : tie.Need-returns-14
 unfolding named
-returns-14 c = arm (c .before .before .before .args .text .now) (c .enum-told14 .given .1) (quiet refl)
+returns-14 c = arm (c .before .before .before .before .args .text .now) (c .before .enum-told14 .given .1) (quiet (c .with-number6 .ensures))
 
 returns-15 : tie.Need-returns-15
 unfolding named
-returns-15 c = arm (c .before .before .before .before .args .text .now) (c .before .enum-told15 .given .1) (quiet (c .with-limited3 .ensures))
+returns-15 c = arm (c .before .before .before .args .text .now) (c .enum-told15 .given .1) (quiet refl)
 
 returns-16 : tie.Need-returns-16
 unfolding named
-returns-16 c = arm (c .before .before .before .before .args .text .now) (c .before .enum-told16 .given .1) (quiet (c .object .ensures))
+returns-16 c = arm (c .before .before .before .before .args .text .now) (c .before .enum-told16 .given .1) (quiet (c .config .ensures))
 
 returns-17 : tie.Need-returns-17
 unfolding named
-returns-17 c = arm (c .before .before .before .args .text .now) (c .enum-told17 .given .1) (quiet refl)
+returns-17 c = arm (c .before .before .before .before .args .text .now) (c .before .enum-told17 .given .1) (quiet (c .with-limited3 .ensures))
+
+returns-18 : tie.Need-returns-18
+unfolding named
+returns-18 c = arm (c .before .before .before .before .args .text .now) (c .before .enum-told18 .given .1) (quiet (c .object .ensures))
+
+returns-19 : tie.Need-returns-19
+unfolding named
+returns-19 c = arm (c .before .before .before .args .text .now) (c .enum-told19 .given .1) (quiet refl)
 
 pub named-spec : {M : Type 1} → statement M
 named-spec =
@@ -209,19 +229,23 @@ named-spec =
     enum-told-10
     with-number-requires-4
     enum-told-11
+    with-number-requires-5
+    enum-told-12
     cast-with-limited
     with-limited-requires
-    enum-told-12
+    enum-told-13
     cast-with-limited-2
     with-limited-requires-2
-    enum-told-13
-    with-number-requires-5
     enum-told-14
+    with-number-requires-6
     enum-told-15
-    with-limited-requires-3
     enum-told-16
-    object-requires
+    config-requires
     enum-told-17
+    with-limited-requires-3
+    enum-told-18
+    object-requires
+    enum-told-19
     returns
     returns-2
     returns-3
@@ -238,4 +262,6 @@ named-spec =
     returns-14
     returns-15
     returns-16
-    returns-17)
+    returns-17
+    returns-18
+    returns-19)

@@ -33,6 +33,9 @@ enum-told-7 c = search needs
 enum-told-8 : tie.Need-enum-told-8
 enum-told-8 c = search needs
 
+enum-told-9 : tie.Need-enum-told-9
+enum-told-9 c = search needs
+
 returns : tie.Need-returns
 returns c = rw (c .before .reading .given .1)
 
@@ -60,6 +63,9 @@ returns-8 c = rw (c .before .before .before .reading2 .given .1, c .enum-told7 .
 returns-9 : tie.Need-returns-9
 returns-9 c = rw (c .before .before .before .reading2 .given .1, c .enum-told8 .given .1)
 
+returns-10 : tie.Need-returns-10
+returns-10 c = rw (c .before .before .before .reading2 .given .1, c .enum-told9 .given .1)
+
 pub of-number-spec : {M : Type 1} → statement M
 of-number-spec =
     tie.close
@@ -74,6 +80,7 @@ of-number-spec =
     enum-told-6
     enum-told-7
     enum-told-8
+    enum-told-9
     returns
     returns-2
     returns-3
@@ -82,4 +89,5 @@ of-number-spec =
     returns-6
     returns-7
     returns-8
-    returns-9)
+    returns-9
+    returns-10)

@@ -117,9 +117,23 @@ slice-aggregate-named-or-16 c = search needs
 named-or-requires-16 : tie.Need-named-or-requires-16
 named-or-requires-16 c κs = search needs
 
+slice-aggregate-named-or-17 : tie.Need-slice-aggregate-named-or-17
+slice-aggregate-named-or-17 c = search needs
+
+named-or-requires-17 : tie.Need-named-or-requires-17
+named-or-requires-17 c κs = search needs
+
+slice-aggregate-named-or-18 : tie.Need-slice-aggregate-named-or-18
+slice-aggregate-named-or-18 c = search needs
+
+named-or-requires-18 : tie.Need-named-or-requires-18
+named-or-requires-18 c κs = search needs
+
 returns : tie.Need-returns
 returns c =
-    let c15 = c .before .before in
+    let c17 = c .before .before in
+    let c16 = c17 .before .before in
+    let c15 = c16 .before .before in
     let c14 = c15 .before .before in
     let c13 = c14 .before .before in
     let c12 = c13 .before .before in
@@ -135,7 +149,9 @@ returns c =
     let c2 = c3 .before .before in
     let c1 = c2 .before .before in
     among
-    (test (c .named-or16 .ensures)
+    (test (c .named-or18 .ensures)
+    (test (c17 .named-or17 .ensures)
+    (test (c16 .named-or16 .ensures)
     (test (c15 .named-or15 .ensures)
     (test (c14 .named-or14 .ensures)
     (test (c13 .named-or13 .ensures)
@@ -150,7 +166,7 @@ returns c =
     (test (c4 .named-or4 .ensures)
     (test (c3 .named-or3 .ensures)
     (test (c2 .named-or2 .ensures)
-    (test (c1 .named-or .ensures) none))))))))))))))))
+    (test (c1 .named-or .ensures) none))))))))))))))))))
 
 pub name-of-spec : {M : Type 1} → statement M
 name-of-spec =
@@ -188,4 +204,8 @@ name-of-spec =
     named-or-requires-15
     slice-aggregate-named-or-16
     named-or-requires-16
+    slice-aggregate-named-or-17
+    named-or-requires-17
+    slice-aggregate-named-or-18
+    named-or-requires-18
     returns)

@@ -16,12 +16,12 @@ same-requires c κs = search needs
 after-requires : tie.Need-after-requires
 after-requires c κs = search needs
 
-sized-requires : tie.Need-sized-requires
-sized-requires c κs = search needs
+sending-requires : tie.Need-sending-requires
+sending-requires c κs = search needs
 
 returns : tie.Need-returns
 unfolding object-of
-returns c = rw (← c .before .before .before .before .before .first .ensures, ← c .before .before .before .same .ensures, c .before .before .if1 .taken, ← c .before .after .ensures) (c .sized .ensures)
+returns c = rw (← c .before .before .before .before .before .first .ensures, ← c .before .before .before .same .ensures, c .before .before .if1 .taken, ← c .before .after .ensures) (c .sending .ensures)
 
 slice-aggregate-same-2 : tie.Need-slice-aggregate-same-2
 slice-aggregate-same-2 c = search needs
@@ -32,12 +32,12 @@ same-requires-2 c κs = search needs
 after-requires-2 : tie.Need-after-requires-2
 after-requires-2 c κs = search needs
 
-sized-requires-2 : tie.Need-sized-requires-2
-sized-requires-2 c κs = search needs
+sized-requires : tie.Need-sized-requires
+sized-requires c κs = search needs
 
 returns-2 : tie.Need-returns-2
 unfolding object-of
-returns-2 c = rw (← c .before .before .before .before .before .before .before .before .first .ensures, ← c .before .before .before .before .before .before .same .ensures, c .before .before .before .before .before .if1 .left, ← c .before .before .before .same2 .ensures, c .before .before .if2 .taken, ← c .before .after2 .ensures) (c .sized2 .ensures)
+returns-2 c = rw (← c .before .before .before .before .before .before .before .before .first .ensures, ← c .before .before .before .before .before .before .same .ensures, c .before .before .before .before .before .if1 .left, ← c .before .before .before .same2 .ensures, c .before .before .if2 .taken, ← c .before .after2 .ensures) (c .sized .ensures)
 
 returns-3 : tie.Need-returns-3
 unfolding object-of
@@ -51,11 +51,11 @@ object-spec =
     slice-aggregate-same
     same-requires
     after-requires
-    sized-requires
+    sending-requires
     returns
     slice-aggregate-same-2
     same-requires-2
     after-requires-2
-    sized-requires-2
+    sized-requires
     returns-2
     returns-3)

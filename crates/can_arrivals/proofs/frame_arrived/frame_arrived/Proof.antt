@@ -6,6 +6,7 @@ use Rattle.rules.specs.Calls.{frame-arrived}
 use Rattle.can_state.specs.View.{view}
 use Rattle.can_state.proofs.Sizes.{sizes}
 use Rattle.can_state.proofs.Gates.{full-gate-is, passed}
+use Rattle.core_places.proofs.Laws.{owned-in}
 use Rattle.can_arrivals.proofs.Arrivals.{state-received}
 use borrow.Author.Needs.{needs}
 use Rattle.can_arrivals.proofs.frame_arrived.frame_arrived.Statement.{statement}
@@ -80,7 +81,7 @@ returns c =
     let s = a .state in
     let sized = sizes (c .before .before .before .before .before .before .before .before .before .before .before .before .before .before .before .before .before .before .before .before .before .before .before .before .before .before .before .before .before .before .before .before .before .before .before .before .before .before .before .args .state) _ (c .before .before .before .before .before .before .before .before .before .before .before .before .before .before .before .before .before .before .before .before .before .before .before .before .before .before .before .before .before .before .before .before .before .before .before .before .before .before .before .good .0) in
     let gate = full-gate-is s (c .before .before .before .before .before .before .before .before .before .before .before .before .before .before .before .before .before .before .before .before .before .before .before .before .before .before .before .before .before .before .before .before .before .before .before .valid .ensures) (length (a .sheet .now)) (a .ram .now) (c .before .before .before .before .before .before .before .before .before .before .before .before .before .before .before .before .before .before .before .before .before .before .before .before .before .before .before .before .before .before .before .before .before .before .full-gate .ensures) in
-    let got = state-received (view s) (s .«object_count») (s .owners) (s .receivings) (s .pendings) (s .dones) (s .fulls) (s .payloads) (s .paddings) (s .codes) (s .masks) refl refl refl refl
+    let got = state-received (view s) (s .«object_count») (s .owners) (s .receivings) (s .pendings) (s .dones) (s .fulls) (s .payloads) (s .paddings) (s .codes) (s .masks) refl (owned-in (s .owners) (s .receivings) (s .pools) (record { second = omega arith; third = omega arith })) refl refl
     (record { second = omega arith; third = omega arith }) (record { three = record { second = omega arith; third = omega arith }; fourth = omega arith }) in
     rw gate at (c .before .before .before .before .before .before .before .arrive-lent .ensures (view s) (record { initialised-is = refl; count-is = refl; controllers-are = refl }) got)
 

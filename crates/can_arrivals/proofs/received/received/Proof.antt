@@ -5,6 +5,7 @@ use mathlib.Core.Bool.{false}
 use native.Mathlib.Omega.{arith}
 use Rattle.core_events.specs.declared.pick.Pick.the-variants.{Object}
 use Rattle.core_events.specs.Pick.{view-pick}
+use Rattle.core_places.proofs.Laws.{owned-in}
 use Rattle.can_arrivals.proofs.Arrivals.{some-state, state-received, chosen-in-use}
 use borrow.Author.Needs.{needs}
 use Rattle.can_arrivals.proofs.received.received.Statement.{statement}
@@ -17,7 +18,7 @@ below c h rank e =
     let a = start .args in
     let pre = start .pre .0 in
     let s = some-state (a .object-count) (a .owners .now) (a .receivings .now) (a .pendings .now) (a .dones .now) (a .fulls .now) (a .payloads .now) (a .paddings .now) (a .codes .now) (a .masks .now) in
-    let got = state-received s (a .object-count) (a .owners .now) (a .receivings .now) (a .pendings .now) (a .dones .now) (a .fulls .now) (a .payloads .now) (a .paddings .now) (a .codes .now) (a .masks .now) refl refl refl refl
+    let got = state-received s (a .object-count) (a .owners .now) (a .receivings .now) (a .pendings .now) (a .dones .now) (a .fulls .now) (a .payloads .now) (a .paddings .now) (a .codes .now) (a .masks .now) refl (owned-in (a .owners .now) (a .receivings .now) (a .owners .now) (record { second = omega arith; third = refl })) refl refl
     (pre .3) (record { three = record { second = omega arith; third = omega arith }; fourth = omega arith }) in
     chosen-in-use s (a .controller) (record { identifier = a .identifier; sdu = a .sdu .now }) false h (sym (c .choose .ensures s (a .sdu .now) (got .filtered) .empty-is) ∙ ap view-pick e)
 

@@ -57,7 +57,7 @@ returns-3 : tie.Need-returns-3
 unfolding outcome-of
 returns-3 c =
     let start = c .before .before .before .before .before .before .before .before .before .before .before in
-    rw (only (start .args .request .function) EVENT (0 ∷ 1 ∷ 2 ∷ 3 ∷ 4 ∷ 5 ∷ 6 ∷ 7 ∷ 8 ∷ 11 ∷ []) (c .before .before .before .before .before .before .before .match .keys3) 11 refl (start .pre))
+    rw (only (start .args .request .function) EVENT (0 ∷ 1 ∷ 2 ∷ 3 ∷ 4 ∷ 5 ∷ 6 ∷ 7 ∷ 8 ∷ 11 ∷ 12 ∷ []) (c .before .before .before .before .before .before .before .match .keys3) 11 refl (start .pre))
     (c .before .before .before .before .arrived .ensures)
 
 pub event-spec : {M : Type 1} → statement M

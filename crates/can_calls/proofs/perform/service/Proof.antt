@@ -103,7 +103,7 @@ returns-5 : tie.Need-returns-5
 unfolding outcome-of
 returns-5 c =
     let start = c .before .before .before .before .before .before .before .before .before .before .before in
-    rw (only (start .args .request .function) SERVICE (4 ∷ 5 ∷ 6 ∷ 7 ∷ 8 ∷ 9 ∷ 10 ∷ 11 ∷ []) (c .before .before .before .before .before .before .before .match .keys5) 4 refl (start .pre))
+    rw (only (start .args .request .function) SERVICE (4 ∷ 5 ∷ 6 ∷ 7 ∷ 8 ∷ 9 ∷ 10 ∷ 11 ∷ 12 ∷ []) (c .before .before .before .before .before .before .before .match .keys5) 4 refl (start .pre))
     (c .before .before .before .before .write .ensures)
 
 pub service-spec : {M : Type 1} → statement M

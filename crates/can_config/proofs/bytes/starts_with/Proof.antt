@@ -29,8 +29,8 @@ loop-holds : tie.Need-loop-holds Inv-loop μ-loop
 unfolding all-below
 loop-holds c = (refl, omega arith, sym (and-true (leb (length (c .before .before .args .start .now)) (length (c .before .before .args .bytes .now)))))
 
-byte-at-requires : tie.Need-byte-at-requires Inv-loop μ-loop
-byte-at-requires c κs = search needs
+number-at-requires : tie.Need-number-at-requires Inv-loop μ-loop
+number-at-requires c κs = search needs
 
 shared-slice-read-same : tie.Need-shared-slice-read-same Inv-loop μ-loop
 shared-slice-read-same c = omega arith
@@ -48,9 +48,9 @@ loop-again c =
     let p = agree (given .bytes .now) (given .start .now) in (
       refl,
       omega arith,
-      rw (at .inv .2) (and-assoc (leb (length (given .start .now)) (length (given .bytes .now))) (all-below (at .i) p) (eqb (c .before .byte-at .result) (getD (given .start .now) (at .i) 0))
+      rw (at .inv .2) (and-assoc (leb (length (given .start .now)) (length (given .bytes .now))) (all-below (at .i) p) (eqb (c .before .number-at .result) (getD (given .start .now) (at .i) 0))
           ∙ ap (λ (b : Bool). leb (length (given .start .now)) (length (given .bytes .now)) && b)
-          (all-below-more p (at .i) refl (ap (λ (b : ℕ). eqb b (getD (given .start .now) (at .i) 0)) (c .before .byte-at .ensures)))),
+          (all-below-more p (at .i) refl (ap (λ (b : ℕ). eqb b (getD (given .start .now) (at .i) 0)) (c .before .number-at .ensures)))),
     )
 
 returns : tie.Need-returns Inv-loop μ-loop
@@ -66,7 +66,7 @@ starts-with-spec =
     Inv-loop
     μ-loop
     loop-holds
-    byte-at-requires
+    number-at-requires
     shared-slice-read-same
     add-i
     loop-less

@@ -43,9 +43,9 @@ settings-valid-requires : tie.Need-settings-valid-requires
 settings-valid-requires c κs = search needs
 
 -- tests of a kind, an owner and settings that the record says are tests of the record
-tested : (count : ℕ) (r : List ℕ) {kind : ℕ} {o : Owner} {s : Settings} {owned suits : Bool} → kind ≡ getD r 1 0 → o ≡ owner-of r → s ≡ settings-of r
-    → owned ≡ owner-valid count o → suits ≡ settings-valid (o .receiving) s → (leb kind 1 && (owned && suits)) ≡ record-valid count r
-tested count r kind owner settings owned suits = rw (owned, suits, kind, owner, settings)
+tested : (version h count : ℕ) (r : List ℕ) {kind : ℕ} {o : Owner} {s : Settings} {owned suits : Bool} → kind ≡ getD r 1 0 → o ≡ owner-of can-format version h r → s ≡ settings-of version r
+    → owned ≡ owner-valid count o → suits ≡ settings-valid (o .receiving) s → (leb kind 1 && (owned && suits)) ≡ record-valid version h count r
+tested version h count r kind owner settings owned suits = rw (owned, suits, kind, owner, settings)
 
 returns : tie.Need-returns
 returns c =
@@ -56,7 +56,7 @@ returns c =
     let settings = c .before .before .before .before .record-settings .ensures in
     record {
       valid =
-          tested (a .controller-count) (object-record chip can-format (a .bytes .now) (a .h)) kind owner settings (c .before .before .owner-valid .ensures)
+          tested (a .version) (a .h) (a .controller-count) (object-record chip can-format (a .bytes .now) (a .h)) kind owner settings (c .before .before .owner-valid .ensures)
           (c .settings-valid .ensures);
       owner = owner;
       settings = settings;

@@ -11,6 +11,7 @@ use Rattle.can_state.specs.declared.state.State.{State}
 use Rattle.can_state.specs.View.{view}
 use Rattle.can_state.specs.Sizes.{Sized}
 use Rattle.can_state.proofs.Sizes.{sizes}
+use Rattle.core_places.proofs.Laws.{owned-in}
 use Rattle.can_state.proofs.Gates.{state-gate-is, state-passed, lifted-performed}
 use borrow.Author.Needs.{needs}
 use Rattle.can_events.proofs.tx_complete.tx_complete.Statement.{statement}
@@ -61,7 +62,6 @@ tx-complete-requires c κs =
     let at = c .before .before .before .before .before .before .before .before .before .before .before .before .before .before .before .before in
     let places = sized at in (
       record { second = omega arith; third = omega arith },
-      omega arith,
       record { second = omega arith; third = omega arith },
       λ none. let few = state-passed (state at) (sym (gate-is at) ∙ none) .objects in omega arith,
     )
@@ -70,7 +70,10 @@ returns : tie.Need-returns
 unfolding tx-complete
 returns c =
     let at = c .before .before .before .before .before .before .before .before .before .before .before .before .before .before .before .before .before .before .before .before in
-    let done = c .before .before .before .tx-complete .ensures (view (state at) .core) [] (record { initialised-is = refl; count-is = refl; owners-are = refl; controllers-are = refl; mailboxes-are = refl }) in
+    let s = state at in
+    let places = sized at in
+    let owned = owned-in (s .owners) (s .receivings) (s .pools) (record { second = omega arith; third = omega arith }) in
+    let done = c .before .before .before .tx-complete .ensures (view s .core) [] (record { initialised-is = refl; count-is = refl; owned = owned; controllers-are = refl; mailboxes-are = refl }) in
     lifted-performed (view (state at)) (rw (gate-is at) at done)
 
 pub tx-complete-spec : {M : Type 1} → statement M

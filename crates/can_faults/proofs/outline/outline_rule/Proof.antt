@@ -1,6 +1,6 @@
 -- Each test on the way picks its case of the definition.
 use Prim.Native.Nat.{ℕ}
-use mathlib.Core.Path.{_≡_, sym, _∙_}
+use mathlib.Core.Path.{_≡_, sym, ap, _∙_}
 use mathlib.Core.Bool.{true, false, cond, _&&_}
 use mathlib.Core.List.{List, [], _∷_}
 use lib.ListN.{take, getD}
@@ -8,8 +8,8 @@ use lib.Dec.{eqb, leb}
 use borrow.Author.Needs.{needs}
 use borrow.Author.Tests.{le-leb, lt-leb, eq-eqb, ne-eqb}
 use Rattle.rules.specs.Bytes.{same-bytes}
-use Rattle.rules.specs.Configuration.{controllers-byte, objects-byte, size-valid}
-use Rattle.rules.specs.Can.{can-format}
+use Rattle.rules.specs.Configuration.{version-of, controllers-byte, objects-byte, size-valid}
+use Rattle.rules.specs.Can.{can-format, known-version}
 use Rattle.rules.specs.Chip.{chip}
 use Rattle.laws.proofs.Tests.{not-true, not-false}
 use Rattle.can_faults.specs.declared.fault.Rule.the-variants.{Accepted, Size}
@@ -36,17 +36,21 @@ at-zero c = at-objects (c .before .before)
 mark-kept : (c : tie.Else1) → same-bytes (take 3 (at-mark c)) (0x43 ∷ 0x48 ∷ 0x42 ∷ []) ≡ true
 mark-kept c = sym (c .before .starts-with .ensures) ∙ not-false (c .before .starts-with .result) (c .if1 .left)
 
-version-kept : (c : tie.Else2) → (eqb (getD (at-version c) 3 0) 0 && eqb (getD (at-version c) 4 0) 1) ≡ true
-version-kept c = rw (← c .before .before .byte-at .ensures, ← c .before .byte-at2 .ensures) (not-false _ (c .if2 .left))
+-- the version is known exactly where the test says so
+version-tested : (c : tie.After-known-version) → c .known-version .result ≡ known-version (version-of (at-mark (c .before .before)))
+version-tested c = c .known-version .ensures ∙ ap known-version (c .before .version-of .ensures)
+
+version-kept : (c : tie.Else2) → known-version (version-of (at-version c)) ≡ true
+version-kept c = sym (version-tested (c .before)) ∙ not-false (c .before .known-version .result) (c .if2 .left)
 
 controllers-kept : (c : tie.Else3) → (leb 1 (controllers-byte (at-controllers c)) && leb (controllers-byte (at-controllers c)) 4) ≡ true
-controllers-kept c = rw (← c .before .byte-at3 .ensures) (not-false _ (c .if3 .left))
+controllers-kept c = rw (← c .before .number-at .ensures) (not-false _ (c .if3 .left))
 
 objects-kept : (c : tie.Else4) → leb (objects-byte (at-objects c)) 32 ≡ true
-objects-kept c = rw (← c .before .byte-at4 .ensures) (le-leb _ _ (c .if4 .left))
+objects-kept c = rw (← c .before .number-at2 .ensures) (le-leb _ _ (c .if4 .left))
 
 zero-kept : (c : tie.Else5) → eqb (getD (at-zero c) 7 0) 0 ≡ true
-zero-kept c = rw (← c .before .byte-at5 .ensures) (eq-eqb _ _ (c .if5 .left))
+zero-kept c = rw (← c .before .number-at3 .ensures) (eq-eqb _ _ (c .if5 .left))
 
 slice-aggregate-starts-with : tie.Need-slice-aggregate-starts-with
 slice-aggregate-starts-with c = search needs
@@ -58,23 +62,20 @@ returns : tie.Need-returns
 unfolding first-broken outline-rules
 returns c = rw (← c .before .starts-with .ensures, not-true (c .before .starts-with .result) (c .if1 .taken))
 
-byte-at-requires : tie.Need-byte-at-requires
-byte-at-requires c κs = search needs
+version-of-requires : tie.Need-version-of-requires
+version-of-requires c κs = search needs
 
-add-byte-at : tie.Need-add-byte-at
-add-byte-at c = search needs
-
-byte-at-requires-2 : tie.Need-byte-at-requires-2
-byte-at-requires-2 c κs = search needs
+known-version-requires : tie.Need-known-version-requires
+known-version-requires c κs = search needs
 
 returns-2 : tie.Need-returns-2
 unfolding first-broken outline-rules
 returns-2 c =
-    let broken : (eqb (c .before .before .byte-at .result) 0 && eqb (c .before .byte-at2 .result) 1) ≡ false = not-true _ (c .if2 .taken) in
-    rw (mark-kept (c .before .before .before), ← c .before .before .byte-at .ensures, ← c .before .byte-at2 .ensures, broken)
+    let judged = c .before in
+    rw (mark-kept (judged .before .before), sym (version-tested judged) ∙ not-true (judged .known-version .result) (c .if2 .taken))
 
-byte-at-requires-3 : tie.Need-byte-at-requires-3
-byte-at-requires-3 c κs = search needs
+number-at-requires : tie.Need-number-at-requires
+number-at-requires c κs = search needs
 
 cast-controller-count : tie.Need-cast-controller-count
 cast-controller-count c = search needs
@@ -83,11 +84,11 @@ returns-3 : tie.Need-returns-3
 unfolding first-broken outline-rules
 returns-3 c =
     let known = c .before .before in
-    let broken : (leb 1 (c .before .byte-at3 .result) && leb (c .before .byte-at3 .result) 4) ≡ false = not-true _ (c .if3 .taken) in
-    rw (mark-kept (known .before .before .before), version-kept known, ← c .before .byte-at3 .ensures, broken)
+    let broken : (leb 1 (c .before .number-at .result) && leb (c .before .number-at .result) 4) ≡ false = not-true _ (c .if3 .taken) in
+    rw (mark-kept (known .before .before .before), version-kept known, ← c .before .number-at .ensures, broken)
 
-byte-at-requires-4 : tie.Need-byte-at-requires-4
-byte-at-requires-4 c κs = search needs
+number-at-requires-2 : tie.Need-number-at-requires-2
+number-at-requires-2 c κs = search needs
 
 cast-object-count : tie.Need-cast-object-count
 cast-object-count c = search needs
@@ -101,12 +102,12 @@ returns-4 c =
       mark-kept (known .before .before .before),
       version-kept known,
       controllers-kept counted,
-      ← c .before .byte-at4 .ensures,
+      ← c .before .number-at2 .ensures,
       lt-leb _ _ (c .if4 .taken),
     )
 
-byte-at-requires-5 : tie.Need-byte-at-requires-5
-byte-at-requires-5 c κs = search needs
+number-at-requires-3 : tie.Need-number-at-requires-3
+number-at-requires-3 c κs = search needs
 
 returns-5 : tie.Need-returns-5
 unfolding first-broken outline-rules
@@ -119,7 +120,7 @@ returns-5 c =
       version-kept known,
       controllers-kept counted,
       objects-kept placed,
-      ← c .before .byte-at5 .ensures,
+      ← c .before .number-at3 .ensures,
       ne-eqb _ _ (c .if5 .taken),
     )
 
@@ -146,11 +147,11 @@ before-total c =
 
 returns-6 : tie.Need-returns-6
 returns-6 c =
-    rw (before-total (c .before), ← c .before .before .before .before .byte-at4 .ensures, ne-eqb _ _ (c .if6 .taken))
+    rw (before-total (c .before), ← c .before .before .before .before .number-at2 .ensures, ne-eqb _ _ (c .if6 .taken))
 
 returns-7 : tie.Need-returns-7
 returns-7 c =
-    rw (before-total (c .before), ← c .before .before .before .before .byte-at4 .ensures, eq-eqb _ _ (c .if6 .left))
+    rw (before-total (c .before), ← c .before .before .before .before .number-at2 .ensures, eq-eqb _ _ (c .if6 .left))
 
 pub outline-rule-spec : {M : Type 1} → statement M
 outline-rule-spec =
@@ -159,17 +160,16 @@ outline-rule-spec =
     slice-aggregate-starts-with
     starts-with-requires
     returns
-    byte-at-requires
-    add-byte-at
-    byte-at-requires-2
+    version-of-requires
+    known-version-requires
     returns-2
-    byte-at-requires-3
+    number-at-requires
     cast-controller-count
     returns-3
-    byte-at-requires-4
+    number-at-requires-2
     cast-object-count
     returns-4
-    byte-at-requires-5
+    number-at-requires-3
     returns-5
     mul-if6
     add-if6

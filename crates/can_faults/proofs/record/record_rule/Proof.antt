@@ -15,9 +15,9 @@ use Rattle.can_faults.proofs.record.record_rule.Statement.{statement}
 use Rattle.can_faults.proofs.record.record_rule.Tie as tie
 
 -- a record that says this is judged by it
-said : (count : ℕ) (r : List ℕ) {o : Owner} {kind : ℕ} {s : Settings} → o ≡ owner-of r → kind ≡ getD r 1 0 → s ≡ settings-of r
-    → first-broken (rules-of count o kind s) ≡ record-rule count r
-said count r owner kind settings = rw (owner, kind, settings)
+said : (version count h : ℕ) (r : List ℕ) {o : Owner} {kind : ℕ} {s : Settings} → o ≡ owner-of can-format version h r → kind ≡ getD r 1 0 → s ≡ settings-of version r
+    → first-broken (rules-of count o kind s) ≡ record-rule version count h r
+said version count h r owner kind settings = rw (owner, kind, settings)
 
 read-record-requires : tie.Need-read-record-requires
 read-record-requires c κs = search needs
@@ -44,7 +44,7 @@ returns c =
     let size = can-format .record-size in
     let kind = sym (getD-part 1 (header-size + size * a .h) size (a .bytes .now) 0 (lit< tt)) in
     let read = reading .read-record .ensures in
-    c .rule-of .ensures ∙ said (a .controller-count) (object-record chip can-format (a .bytes .now) (a .h)) (read .owner) kind (read .settings)
+    c .rule-of .ensures ∙ said (a .version) (a .controller-count) (a .h) (object-record chip can-format (a .bytes .now) (a .h)) (read .owner) kind (read .settings)
 
 pub record-rule-spec : {M : Type 1} → statement M
 record-rule-spec =

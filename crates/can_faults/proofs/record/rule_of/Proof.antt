@@ -14,7 +14,7 @@ use Rattle.can_faults.proofs.record.rule_of.Tie as tie
 -- what every record must keep is kept: the rules of its kind are left
 kind-left : (c : tie.Else3) → let a = c .before .before .before .before .before .args in
     first-broken (rules-of (a .controller-count) (view-owner (a .owner)) (a .kind) (view-settings (a .settings)))
-    ≡ first-broken (cond (a .owner .receiving) (receiving-rules (view-settings (a .settings))) (sending-rules (view-settings (a .settings))))
+    ≡ first-broken (cond (a .owner .receiving) (receiving-rules (view-settings (a .settings))) (sending-rules (a .owner .pool) (view-settings (a .settings))))
 unfolding first-broken rules-of
 kind-left c =
     let second = c .before .before in

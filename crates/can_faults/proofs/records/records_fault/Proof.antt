@@ -15,21 +15,21 @@ use Rattle.can_faults.proofs.records.records_fault.Statement.{statement
 use Rattle.can_faults.proofs.records.records_fault.Tie as tie
 
 -- the first rule that record h breaks
-abbrev rule-at : List ℕ → ℕ → ℕ → Rule
-rule-at bytes controller-count h = record-rule controller-count (object-record chip can-format bytes h)
+abbrev rule-at : List ℕ → ℕ → ℕ → ℕ → Rule
+rule-at bytes version controller-count h = record-rule version controller-count h (object-record chip can-format bytes h)
 
 abbrev Inv-loop : tie.InvT-loop
-Inv-loop bytes controller-count object-count h₀ h = (h ≤ object-count) × (first-fault h (rule-at bytes controller-count) ≡ no-fault)
+Inv-loop bytes version controller-count object-count h₀ h = (h ≤ object-count) × (first-fault h (rule-at bytes version controller-count) (λ k. 0) ≡ no-fault)
 
 abbrev μ-loop : tie.MeasureT-loop
-μ-loop bytes controller-count object-count h₀ h = object-count - h
+μ-loop bytes version controller-count object-count h₀ h = object-count - h
 
 loop-holds : tie.Need-loop-holds Inv-loop μ-loop
 unfolding first-fault
 loop-holds c = (omega arith, refl)
 
 record-rule-requires : tie.Need-record-rule-requires Inv-loop μ-loop
-record-rule-requires c κs = omega arith
+record-rule-requires c κs = (omega arith, omega arith)
 
 is-accepted-requires : tie.Need-is-accepted-requires Inv-loop μ-loop
 is-accepted-requires c κs = search needs
@@ -39,8 +39,8 @@ returns c =
     let at = c .before .before .before .before .loop in
     let a = c .before .before .before .before .before .before .args in
     let judged = c .before .is-accepted in
-    found (rule-at (a .bytes .now) (a .controller-count)) (at .h) (at .inv .1) (a .object-count) (omega arith) (c .before .before .record-rule .ensures)
-    (sym (judged .ensures) ∙ not-true (judged .result) (c .if1 .taken))
+    found (rule-at (a .bytes .now) (a .version) (a .controller-count)) (λ k. 0) (at .h) (at .inv .1) (c .before .before .record-rule .ensures) (a .object-count) (omega arith)
+    (sym (judged .ensures) ∙ not-true (judged .result) (c .if1 .taken)) refl
 
 add-h : tie.Need-add-h Inv-loop μ-loop
 add-h c = omega arith
@@ -54,7 +54,7 @@ loop-again c =
     let a = c .before .before .before .before .before .before .args in
     let judged = c .before .is-accepted in (
       omega arith,
-      none-more (rule-at (a .bytes .now) (a .controller-count)) (at .h) (at .inv .1) (c .before .before .record-rule .ensures)
+      none-more (rule-at (a .bytes .now) (a .version) (a .controller-count)) (λ k. 0) (at .h) (at .inv .1) (c .before .before .record-rule .ensures)
           (sym (judged .ensures) ∙ not-false (judged .result) (c .if1 .left)),
     )
 

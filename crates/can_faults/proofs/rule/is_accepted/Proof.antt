@@ -1,4 +1,4 @@
--- The first variant alone is accepted; the other arm is that of variants 1 to 17.
+-- The first variant alone is accepted; the other arm is that of variants 1 to 21.
 use Prim.Native.Nat.{ℕ}
 use mathlib.Core.Path.{_≡_, refl}
 use mathlib.Core.Bool.{false}
@@ -7,14 +7,14 @@ use types.Run.{OneOf, miss}
 use denote.Enum.Declared.{tagOf}
 use borrow.Author.Needs.{needs}
 use Rattle.can_faults.specs.declared.fault.Rule.{Rule}
-use Rattle.can_faults.specs.declared.fault.Rule.the-variants.{Accepted, Mark, Version, Controllers, Objects, ZeroByte, Size, Controller, Kind, Payload, SendingCode, SendingMask, ReceivingPadding, CodeBits, MaskBits, StandardCode, StandardMask, StrayBit}
+use Rattle.can_faults.specs.declared.fault.Rule.the-variants.{Accepted, Mark, Version, Controllers, Objects, ZeroByte, Size, Controller, Kind, Payload, SendingCode, SendingMask, Pool, ReceivingPadding, CodeBits, MaskBits, StandardCode, StandardMask, StrayBit, PoolController, PoolPayload, PoolPadding}
 use Rattle.can_faults.specs.Fault.{is-accepted}
 use Rattle.can_faults.proofs.fault.Rule.{the-type}
 use Rattle.can_faults.proofs.rule.is_accepted.Statement.{statement}
 use Rattle.can_faults.proofs.rule.is_accepted.Tie as tie
 
 abbrev others : List ℕ
-others = 1 ∷ 2 ∷ 3 ∷ 4 ∷ 5 ∷ 6 ∷ 7 ∷ 8 ∷ 9 ∷ 10 ∷ 11 ∷ 12 ∷ 13 ∷ 14 ∷ 15 ∷ 16 ∷ 17 ∷ []
+others = 1 ∷ 2 ∷ 3 ∷ 4 ∷ 5 ∷ 6 ∷ 7 ∷ 8 ∷ 9 ∷ 10 ∷ 11 ∷ 12 ∷ 13 ∷ 14 ∷ 15 ∷ 16 ∷ 17 ∷ 18 ∷ 19 ∷ 20 ∷ 21 ∷ []
 
 not-accepted : (r : Rule) → OneOf others (tagOf the-type r) → false ≡ is-accepted r
 not-accepted Accepted one = absurd (miss others 0 tt one)
@@ -29,12 +29,16 @@ not-accepted Kind one = refl
 not-accepted Payload one = refl
 not-accepted SendingCode one = refl
 not-accepted SendingMask one = refl
+not-accepted Pool one = refl
 not-accepted ReceivingPadding one = refl
 not-accepted CodeBits one = refl
 not-accepted MaskBits one = refl
 not-accepted StandardCode one = refl
 not-accepted StandardMask one = refl
 not-accepted StrayBit one = refl
+not-accepted PoolController one = refl
+not-accepted PoolPayload one = refl
+not-accepted PoolPadding one = refl
 
 enum-told : tie.Need-enum-told
 enum-told c = search needs

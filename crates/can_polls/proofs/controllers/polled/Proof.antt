@@ -35,7 +35,7 @@ slice-aggregate-poll-controllers-6 : tie.Need-slice-aggregate-poll-controllers-6
 slice-aggregate-poll-controllers-6 c = search needs
 
 slice-aggregate-poll-controllers-7 : tie.Need-slice-aggregate-poll-controllers-7
-slice-aggregate-poll-controllers-7 c = search needs
+slice-aggregate-poll-controllers-7 c = let start = c .before .before .before .before .before .before .before .before .before .before .before .before .before .before .before .before .before .before in sym (sizes (start .args .state) _ (start .good .1 .0) .fulls)
 
 poll-controllers-requires : tie.Need-poll-controllers-requires
 poll-controllers-requires c κs =

@@ -24,7 +24,7 @@ stopped-modes-requires c κs = search needs
 
 returns : tie.Need-returns
 returns c =
-    let setup = view-setup (c .before .before .before .before .before .before .before .args .setup) in
+    let setup = view-setup (c .before .before .before .before .before .before .before .before .args .setup) in
     λ i.
     record {
       core =
@@ -34,7 +34,7 @@ returns c =
             object-count = setup .object-count;
             owners = setup .owners;
             controllers =
-                (ap (λ (modes : List ℕ). controllers-in modes (replicate (chip .controllers) NO-REQUEST) (replicate (chip .controllers) false)) (c .before .before .before .before .before .before .stopped-modes .ensures)
+                (ap (λ (modes : List ℕ). controllers-in modes (replicate (chip .controllers) NO-REQUEST) (replicate (chip .controllers) false)) (c .before .before .before .before .before .before .before .stopped-modes .ensures)
                 ∙ stopped-listed (chip .controllers) (setup .controller-count)) i;
             mailboxes = none-waits i;
           };

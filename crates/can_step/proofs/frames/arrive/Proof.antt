@@ -45,7 +45,7 @@ returns c =
       (λ s v controlled held settings.
           let got =
           state-received s (a .object-count) (a .owners .now) (a .receivings .now) (a .pendings .now) (a .dones .now) (a .fulls .now) (a .payloads .now) (a .paddings .now) (a .codes .now) (a .masks .now)
-          (held .count-is) (held .owners-are) (held .mailboxes-are) settings (alike boxes) (record { three = alike (own .0); fourth = own .1 ∙ sym (own .0 .first) }) in
+          (held .count-is) (held .owned) (held .mailboxes-are) settings (alike boxes) (record { three = alike (own .0); fourth = own .1 ∙ sym (own .0 .first) }) in
           left-is (rw (full-gate-is s v (length (a .sheet .now)) (a .ram .now) (c .before .before .before .before .before .before .before .before .before .before .before .before .before .before .before .before .before .before .before .full-gate .ensures)) at (c .before .before .before .before .arrive-lent .ensures s controlled got))),
       record { first = c .before .before .before .before .arrive-lent .kept .1 .1 .1 .1 .1 .1 .1 .1 .1 .0 ∙ boxes .first; second = c .before .before .before .before .arrive-lent .kept .1 .1 .1 .1 .1 .1 .1 .1 .1 .1 .0 ∙ boxes .second; third = c .before .before .before .before .arrive-lent .kept .1 .1 .1 .1 .1 .1 .1 .1 .1 .1 .1 .0 ∙ boxes .third },
     )

@@ -7,8 +7,11 @@ use mathlib.Core.Path.{refl}
 use Rattle.rules.specs.Polls as polls
 use Rattle.rules.specs.Calls as calls
 use Rattle.history.specs.Call.{performed}
-use Rattle.core_places.specs.Arrays.{controllers-in, owners-in, mailboxes-in}
+use Rattle.core_places.specs.Arrays.{Alike, controllers-in, mailboxes-in}
 use Rattle.core_places.specs.Held.{Controlled, Held}
+use Rattle.core_places.specs.Pools.{Pooled}
+use Rattle.core_places.proofs.Laws.{owned-in, pooled-in}
+use Rattle.can_state.specs.Sizes.{Sized}
 use Rattle.can_state.specs.declared.state.State.{State}
 use Rattle.can_state.specs.View.{view}
 use Rattle.can_state.proofs.Gates.{Within, within}
@@ -23,7 +26,7 @@ use Rattle.can_step.proofs.step.step.Tie as tie
 abbrev state : tie.Start → State
 state c =
     let a = c .args in
-    gathered (a .initialised .now) (a .controller-count .now) (a .object-count .now) (a .modes .now) (a .requests .now) (a .marks .now) (a .owners .now) (a .receivings .now) (a .pendings .now) (a .dones .now) (a .fulls .now) (a .payloads .now) (a .paddings .now)
+    gathered (a .initialised .now) (a .controller-count .now) (a .object-count .now) (a .modes .now) (a .requests .now) (a .marks .now) (a .owners .now) (a .receivings .now) (a .pools .now) (a .pendings .now) (a .dones .now) (a .fulls .now) (a .payloads .now) (a .paddings .now)
     (a .codes .now) (a .masks .now)
 
 -- no more in use than there are places
@@ -34,9 +37,15 @@ few c = within (state c) (c .pre .sound)
 controlled : (s : State) → Controlled (view s .core) (s .initialised) (s .«controller_count») (controllers-in (s .modes) (s .requests) (s .marks))
 controlled s = record { initialised-is = refl; count-is = refl; controllers-are = refl }
 
-held : (s : State)
-    → Held (view s .core) (s .initialised) (s .«object_count») (owners-in (s .owners) (s .receivings)) (controllers-in (s .modes) (s .requests) (s .marks)) (mailboxes-in (s .pendings) (s .dones) (s .fulls))
-held s = record { initialised-is = refl; count-is = refl; owners-are = refl; controllers-are = refl; mailboxes-are = refl }
+alike : (s : State) → Sized s → Alike (s .owners) (s .receivings) (s .pools)
+alike s sized = record { second = omega arith; third = omega arith }
+
+held : (s : State) → Sized s
+    → Held (view s .core) (s .initialised) (s .«object_count») (s .owners) (s .receivings) (controllers-in (s .modes) (s .requests) (s .marks)) (mailboxes-in (s .pendings) (s .dones) (s .fulls))
+held s sized = record { initialised-is = refl; count-is = refl; owned = owned-in (s .owners) (s .receivings) (s .pools) (alike s sized); controllers-are = refl; mailboxes-are = refl }
+
+pooled : (s : State) → Sized s → Pooled (view s .core .owners) (s .pools)
+pooled s sized = pooled-in (s .owners) (s .receivings) (s .pools) (alike s sized)
 
 init-requires : tie.Need-init-requires
 init-requires c κs = search needs
@@ -54,8 +63,8 @@ get-mode-requires c κs = search needs
 
 write-requires : tie.Need-write-requires
 write-requires c κs =
-    let start = c .before .before .before .before .before .before .before .before .before .before .before .before .before .before .before .before .before .before .before in
-    ((few start .objects, controllers (state start) (start .pre .sized), start .pre .sized .owners, start .pre .sized .receivings, mailboxes (state start) (start .pre .sized)), (settings (state start) (start .pre .sized), start .pre .sized .masks))
+    let start = c .before .before .before .before .before .before .before .before .before .before .before .before .before .before .before .before .before .before .before .before in
+    ((few start .objects, controllers (state start) (start .pre .sized), start .pre .sized .owners, start .pre .sized .receivings, start .pre .sized .pools, mailboxes (state start) (start .pre .sized)), (settings (state start) (start .pre .sized), start .pre .sized .masks))
 
 objects-requires : tie.Need-objects-requires
 objects-requires c κs =
@@ -101,10 +110,10 @@ same-length-2 c = search needs
 returns : tie.Need-returns
 unfolding performed
 returns c =
-    let start = c .before .before .before .before .before .before .before .before .before .before .before .before .before .before .before .before .before .before .before .before .before .before .before .before .before .before in
+    let start = c .before .before .before .before .before .before .before .before .before .before .before .before .before .before .before .before .before .before .before .before .before .before .before .before .before .before .before in
     let a = start .args in
     let s = state start in
-    made-by (a .sheet .now) (a .place) (a .value) (a .handle) (a .bytes .now) s (a .ram .now) (start .pre) 0 (c .before .before .before .before .before .before .before .before .before .before .before .before .before .before .before .before .before .before .before .before .before .before .match .keys1)
+    made-by (a .sheet .now) (a .place) (a .value) (a .handle) (a .bytes .now) s (a .ram .now) (start .pre) 0 (c .before .before .before .before .before .before .before .before .before .before .before .before .before .before .before .before .before .before .before .before .before .before .before .match .keys1)
     (c .before .before .before .before .init .ensures .0)
     (c .before .before .before .before .init .ensures .1)
 
@@ -117,10 +126,10 @@ same-length-4 c = search needs
 returns-2 : tie.Need-returns-2
 unfolding performed
 returns-2 c =
-    let start = c .before .before .before .before .before .before .before .before .before .before .before .before .before .before .before .before .before .before .before .before .before .before .before .before .before .before in
+    let start = c .before .before .before .before .before .before .before .before .before .before .before .before .before .before .before .before .before .before .before .before .before .before .before .before .before .before .before in
     let a = start .args in
     let s = state start in
-    made-by (a .sheet .now) (a .place) (a .value) (a .handle) (a .bytes .now) s (a .ram .now) (start .pre) 1 (c .before .before .before .before .before .before .before .before .before .before .before .before .before .before .before .before .before .before .before .before .before .before .match .keys2)
+    made-by (a .sheet .now) (a .place) (a .value) (a .handle) (a .bytes .now) s (a .ram .now) (start .pre) 1 (c .before .before .before .before .before .before .before .before .before .before .before .before .before .before .before .before .before .before .before .before .before .before .before .match .keys2)
     (c .before .before .before .before .deinit .ensures .0)
     (c .before .before .before .before .deinit .ensures .1)
 
@@ -159,12 +168,12 @@ same-length-8 c = search needs
 returns-5 : tie.Need-returns-5
 unfolding performed
 returns-5 c =
-    let start = c .before .before .before .before .before .before .before .before .before .before .before .before .before .before .before .before .before .before .before .before .before .before .before .before in
+    let start = c .before .before .before .before .before .before .before .before .before .before .before .before .before .before .before .before .before .before .before .before .before .before .before .before .before in
     let a = start .args in
     let s = state start in
     let short : a .handle < 2 ^ 16 = omega arith in
-    made-by (a .sheet .now) (a .place) (a .value) (a .handle) (a .bytes .now) s (a .ram .now) (start .pre) 4 (c .before .before .before .before .before .before .before .before .before .before .before .before .before .before .before .before .before .before .before .before .match .keys5)
-    (rw (mod-eq-of-lt short) (c .before .before .before .before .write .ensures .0 (view s) (start .pre .sound) (held s) refl))
+    made-by (a .sheet .now) (a .place) (a .value) (a .handle) (a .bytes .now) s (a .ram .now) (start .pre) 4 (c .before .before .before .before .before .before .before .before .before .before .before .before .before .before .before .before .before .before .before .before .before .match .keys5)
+    (rw (mod-eq-of-lt short) (c .before .before .before .before .write .ensures .0 (view s) (start .pre .sound) (held s (start .pre .sized)) (pooled s (start .pre .sized)) refl))
     (sized-again s (start .pre .sized) (controllers s (start .pre .sized)) (c .before .before .before .before .write .ensures .1))
 
 same-length-9 : tie.Need-same-length-9
@@ -238,7 +247,7 @@ returns-10 c =
     let a = start .args in
     let s = state start in
     made-by (a .sheet .now) (a .place) (a .value) (a .handle) (a .bytes .now) s (a .ram .now) (start .pre) 9 (c .before .before .before .before .before .before .before .before .before .before .match .keys10)
-    (c .sent .ensures .0 (view s) (a .ram .now) (a .sheet .now) (start .pre .sound) (held s))
+    (c .sent .ensures .0 (view s) (a .ram .now) (a .sheet .now) (start .pre .sound) (held s (start .pre .sized)))
     (sized-again s (start .pre .sized) (controllers s (start .pre .sized)) (c .sent .ensures .1))
 
 returns-11 : tie.Need-returns-11
@@ -265,7 +274,7 @@ returns-12 c =
     let s = state start in
     made-otherwise (a .sheet .now) (a .place) (a .value) (a .handle) (a .bytes .now) s (a .ram .now) (start .pre)
     (beyond (c .before .before .before .before .before .before .before .before .before .before .before .before .before .before .before .before .before .before .before .before .before .match .rest .0 .0 .0 .0 .0 .0 .0 .0 .0 .0 .1) (c .before .before .before .before .before .before .before .before .before .before .before .before .before .before .before .before .before .before .before .before .before .match .rest .0 .0 .0 .0 .0 .0 .0 .0 .0 .1) (c .before .before .before .before .before .before .before .before .before .before .before .before .before .before .before .before .before .before .before .before .before .match .rest .0 .0 .0 .0 .0 .0 .0 .0 .1) (c .before .before .before .before .before .before .before .before .before .before .before .before .before .before .before .before .before .before .before .before .before .match .rest .0 .0 .0 .0 .0 .0 .0 .1) (c .before .before .before .before .before .before .before .before .before .before .before .before .before .before .before .before .before .before .before .before .before .match .rest .0 .0 .0 .0 .0 .0 .1) (c .before .before .before .before .before .before .before .before .before .before .before .before .before .before .before .before .before .before .before .before .before .match .rest .0 .0 .0 .0 .0 .1) (c .before .before .before .before .before .before .before .before .before .before .before .before .before .before .before .before .before .before .before .before .before .match .rest .0 .0 .0 .0 .1) (c .before .before .before .before .before .before .before .before .before .before .before .before .before .before .before .before .before .before .before .before .before .match .rest .0 .0 .0 .1) (c .before .before .before .before .before .before .before .before .before .before .before .before .before .before .before .before .before .before .before .before .before .match .rest .0 .0 .1) (c .before .before .before .before .before .before .before .before .before .before .before .before .before .before .before .before .before .before .before .before .before .match .rest .0 .1) (c .before .before .before .before .before .before .before .before .before .before .before .before .before .before .before .before .before .before .before .before .before .match .rest .1))
-    (c .before .before .before .before .arrive .ensures .0 (view s) (start .pre .sound) (controlled s) (held s) refl)
+    (c .before .before .before .before .arrive .ensures .0 (view s) (start .pre .sound) (controlled s) (held s (start .pre .sized)) refl)
     (sized-again s (start .pre .sized) (controllers s (start .pre .sized)) (c .before .before .before .before .arrive .ensures .1))
 
 pub step-spec : {M : Type 1} → statement M

@@ -2,20 +2,20 @@
 -- an accepted event is in use, and its mailbox is stored there; a refused one leaves everything as it was.
 use Prim.Native.Nat.{ℕ}
 use mathlib.Core.Path.{_≡_, refl, sym, ap, _∙_}
-use mathlib.Core.Bool.{not, _&&_}
+use mathlib.Core.Bool.{Bool, not, _&&_}
 use mathlib.Core.List.{List, []}
 use native.Mathlib.Omega.{arith}
 use lib.Dec.{ltb}
 use borrow.Author.Needs.{needs}
 use borrow.Author.Tests.{ltb-true}
 use Rattle.rules.specs.Reason.{Check, first-reason, _then_, reasons-named}
-use Rattle.rules.specs.Core.{Owner, Controller, Mailbox, Core, with-mailboxes}
+use Rattle.rules.specs.Core.{Controller, Mailbox, Core, with-mailboxes}
 use Rattle.rules.specs.Outcome.{no-answer, no-report}
 use Rattle.rules.specs.Events.{tx-complete, tx-complete-checks}
 use Rattle.laws.proofs.Tests.{left, not-false}
 use Rattle.laws.proofs.Reasons.{then-first, then-second, check-passed}
-use Rattle.core_places.specs.View.{view-owner, view-controller, view-mailbox}
-use Rattle.core_places.specs.Arrays.{owners-in, controllers-in, mailboxes-in}
+use Rattle.core_places.specs.View.{view-controller, view-mailbox}
+use Rattle.core_places.specs.Arrays.{controllers-in, mailboxes-in}
 use Rattle.core_places.specs.Held.{Held}
 use Rattle.core_places.proofs.Laws.{object-read, mailbox-stored}
 use Rattle.core_answers.specs.Answer.{verdict-reason}
@@ -27,14 +27,14 @@ use Rattle.core_events.proofs.tx_complete.tx_complete.Tie as tie
 
 -- where the places are read
 abbrev read : tie.After-then → tie.After-mailbox-at
-read c = c .before .before .before
+read c = c .before .before
 
 abbrev start : tie.After-then → tie.Start
 start c = read c .before .before .before .before .before .before .before .before .before .before .before .before .before .before .before
 
 -- what is read, as the rules see it
-abbrev owner : tie.After-then → Owner
-owner c = view-owner (read c .before .before .before .before .before .before .owner-at .result)
+abbrev receiving : tie.After-then → Bool
+receiving c = read c .before .before .before .before .before .flag-at .result
 
 abbrev controller : tie.After-then → Controller
 controller c = view-controller (read c .before .before .before .before .controller-at .result)
@@ -46,7 +46,7 @@ mailbox c = view-mailbox (read c .mailbox-at .result)
 abbrev checks : tie.After-then → List Check
 checks c =
     let a = start c .args in
-    sent-checks (a .initialised) (ltb (a .object) (a .object-count) && not (owner c .receiving)) (mailbox c) (controller c)
+    sent-checks (a .initialised) (ltb (a .object) (a .object-count) && not (receiving c)) (mailbox c) (controller c)
 
 reason-is : (c : tie.After-then) → verdict-reason (c .then .result) ≡ (verdict-reason (start c .args .gate) then first-reason (checks c))
 reason-is c = c .then .ensures ∙ rw (c .before .judge-sent .ensures)
@@ -55,7 +55,7 @@ reason-is c = c .then .ensures ∙ rw (c .before .judge-sent .ensures)
 abbrev Holds : tie.After-then → Core → Type 0
 Holds c core =
     let a = start c .args in
-    Held core (a .initialised) (a .object-count) (owners-in (a .owners .now) (a .receivings .now)) (controllers-in (a .modes .now) (a .requests .now) (a .marks .now))
+    Held core (a .initialised) (a .object-count) (a .owners .now) (a .receivings .now) (controllers-in (a .modes .now) (a .requests .now) (a .marks .now))
     (mailboxes-in (a .pendings .now) (a .dones .now) (a .fulls .now))
 
 found : (c : tie.After-then) (core : Core) → Holds c core
@@ -63,11 +63,14 @@ found : (c : tie.After-then) (core : Core) → Holds c core
 found c core held =
     let a = start c .args in
     let at = read c in
-    let seen = object-read (a .object) held (at .before .before .before .before .before .before .owner-at .ensures) (at .before .before .before .before .controller-at .ensures) (at .mailbox-at .ensures) in
+    let seen = object-read (a .object) held (at .before .before .before .before .before .before .number-at .ensures) (at .before .before .before .before .before .flag-at .ensures) (at .before .before .before .before .controller-at .ensures) (at .mailbox-at .ensures) in
     reason-is c ∙ ap (λ (own : ℕ). verdict-reason (a .gate) then own) (sent-read (a .object) held seen)
 
-owner-at-requires : tie.Need-owner-at-requires
-owner-at-requires c κs = search needs
+number-at-requires : tie.Need-number-at-requires
+number-at-requires c κs = search needs
+
+flag-at-requires : tie.Need-flag-at-requires
+flag-at-requires c κs = search needs
 
 cast-controller-at : tie.Need-cast-controller-at
 cast-controller-at c = search needs
@@ -97,8 +100,8 @@ set-mailbox-requires c κs =
     let a = start at .args in
     let used = ltb (a .object) (a .object-count) in
     let none = sym (reason-is at) ∙ ap verdict-reason (c .before .before .before .before .enum-told .given .1) in
-    let sending = not-false (used && not (owner at .receiving)) (check-passed 1 (checks at) refl (then-second (verdict-reason (a .gate)) (first-reason (checks at)) none)) in
-    (omega (arith, ltb-true (a .object) (a .object-count) (left used (not (owner at .receiving)) sending), start at .pre .3 (then-first (verdict-reason (a .gate)) (first-reason (checks at)) none)), start at .pre .2)
+    let sending = not-false (used && not (receiving at)) (check-passed 1 (checks at) refl (then-second (verdict-reason (a .gate)) (first-reason (checks at)) none)) in
+    (omega (arith, ltb-true (a .object) (a .object-count) (left used (not (receiving at)) sending), start at .pre .2 (then-first (verdict-reason (a .gate)) (first-reason (checks at)) none)), start at .pre .1)
 
 enum-known-verdict : tie.Need-enum-known-verdict
 enum-known-verdict c = search needs
@@ -145,7 +148,8 @@ pub tx-complete-spec : {M : Type 1} → statement M
 tx-complete-spec =
     tie.close
     (tie.spec
-    owner-at-requires
+    number-at-requires
+    flag-at-requires
     cast-controller-at
     controller-at-requires
     mailbox-at-requires

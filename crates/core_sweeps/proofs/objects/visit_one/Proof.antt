@@ -20,7 +20,7 @@ free-object-requires : tie.Need-free-object-requires
 free-object-requires c κs =
     let start = c .before .before .before .before .before .before .before .before .before .before .before .before .before .before .before in
     let a = start .args in
-    let owners : List Owner = record { controller = a .owner; receiving = false } ∷ [] in
+    let owners : List Owner = record { controller = a .owner; receiving = false; pool = 0 } ∷ [] in
     let due = sym (c .before .before .before .before .before .visit-due .ensures (a .size) (a .two-bytes) owners (a .ram .now) 0 refl) ∙ c .before .before .before .before .if1 .taken in
     let busy = sym (ap mailbox-busy (c .before .before .before .before .before .before .read-mailbox .ensures)) ∙ visit-frees (a .visit) (a .size) (a .two-bytes) owners (a .ram .now) 0 _ due in
     (start .pre .0, (start .pre .1 .0, start .pre .1 .1 busy))

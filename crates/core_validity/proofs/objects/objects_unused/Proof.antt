@@ -5,7 +5,7 @@ use lib.ListN.{length}
 use mathlib.Core.Bool.{_&&_}
 use Rattle.rules.specs.Core.{owner-at, mailbox-at, owner-unused, mailbox-empty}
 use Rattle.core_places.specs.Arrays.{owners-in, mailboxes-in}
-use Rattle.core_places.proofs.Laws.{zip-length, owner-seen, mailbox-seen}
+use Rattle.core_places.proofs.Laws.{zip-3-length, owner-seen, mailbox-seen}
 use Rattle.core_validity.specs.Tests.{all-from}
 use Rattle.core_validity.proofs.Laws.{from-none, from-more}
 use borrow.Author.Needs.{needs}
@@ -14,28 +14,31 @@ use Rattle.core_validity.proofs.objects.objects_unused.Statement.{state
 use Rattle.core_validity.proofs.objects.objects_unused.Tie as tie
 
 abbrev Inv-loop : tie.InvT-loop
-Inv-loop owners receivings pendings dones fulls count ok₀ h₀ h-end ok h = (h-end ≡ length owners) × (count ≤ h) × (h ≤ length owners) × (ok ≡ all-from h count (λ i. owner-unused (owner-at (owners-in owners receivings) i) && mailbox-empty (mailbox-at (mailboxes-in pendings dones fulls) i)))
+Inv-loop owners receivings pools pendings dones fulls count ok₀ h₀ h-end ok h = (h-end ≡ length owners) × (count ≤ h) × (h ≤ length owners) × (ok ≡ all-from h count (λ i. owner-unused (owner-at (owners-in owners receivings pools) i) && mailbox-empty (mailbox-at (mailboxes-in pendings dones fulls) i)))
 
 abbrev μ-loop : tie.MeasureT-loop
-μ-loop owners receivings pendings dones fulls count ok₀ h₀ h-end ok h = length owners - h
+μ-loop owners receivings pools pendings dones fulls count ok₀ h₀ h-end ok h = length owners - h
 
 loop-holds : tie.Need-loop-holds Inv-loop μ-loop
-loop-holds c = (refl, omega arith, c .before .before .before .before .before .pre .1, from-none _ _)
+loop-holds c = (refl, omega arith, c .before .before .before .before .before .before .pre .2, from-none _ _)
 
-shared-slice-read-t16 : tie.Need-shared-slice-read-t16 Inv-loop μ-loop
-shared-slice-read-t16 c = omega arith
+shared-slice-read-t17 : tie.Need-shared-slice-read-t17 Inv-loop μ-loop
+shared-slice-read-t17 c = omega arith
 
 shared-slice-read-ok : tie.Need-shared-slice-read-ok Inv-loop μ-loop
 shared-slice-read-ok c = omega arith
 
-shared-slice-read-ok-2 : tie.Need-shared-slice-read-ok-2 Inv-loop μ-loop
-shared-slice-read-ok-2 c = omega arith
-
 shared-slice-read-t20 : tie.Need-shared-slice-read-t20 Inv-loop μ-loop
 shared-slice-read-t20 c = omega arith
 
-shared-slice-read-t22 : tie.Need-shared-slice-read-t22 Inv-loop μ-loop
-shared-slice-read-t22 c = omega arith
+shared-slice-read-ok-2 : tie.Need-shared-slice-read-ok-2 Inv-loop μ-loop
+shared-slice-read-ok-2 c = omega arith
+
+shared-slice-read-t23 : tie.Need-shared-slice-read-t23 Inv-loop μ-loop
+shared-slice-read-t23 c = omega arith
+
+shared-slice-read-t25 : tie.Need-shared-slice-read-t25 Inv-loop μ-loop
+shared-slice-read-t25 c = omega arith
 
 owner-unused-requires : tie.Need-owner-unused-requires Inv-loop μ-loop
 owner-unused-requires c κs = search needs
@@ -51,18 +54,19 @@ loop-less c = omega arith
 
 loop-again : tie.Need-loop-again Inv-loop μ-loop
 loop-again c =
-    let at = c .before .before .before .before .before .before .before .before .loop in
-    let a = c .before .before .before .before .before .before .before .before .before .before .before .before .before .before .args in
-    let alike = c .before .before .before .before .before .before .before .before .before .before .before .before .before .before .pre .0 in (
+    let at = c .before .before .before .before .before .before .before .before .before .loop in
+    let a = c .before .before .before .before .before .before .before .before .before .before .before .before .before .before .before .before .args in
+    let pooled = c .before .before .before .before .before .before .before .before .before .before .before .before .before .before .before .before .pre .1 in
+    let alike = c .before .before .before .before .before .before .before .before .before .before .before .before .before .before .before .before .pre .0 in (
       at .inv .0,
       omega arith,
       omega arith,
       from-more (a .count)
           (λ i.
-          owner-unused (owner-at (owners-in (a .owners .now) (a .receivings .now)) i)
+          owner-unused (owner-at (owners-in (a .owners .now) (a .receivings .now) (a .pools .now)) i)
           && mailbox-empty (mailbox-at (mailboxes-in (a .pendings .now) (a .dones .now) (a .fulls .now)) i)) (at .h) (at .inv .1) (at .inv .3)
           (rw (
-            owner-seen (a .owners .now) (a .receivings .now) (at .h) (alike .kinds),
+            owner-seen (a .owners .now) (a .receivings .now) (a .pools .now) (at .h) (record { second = alike .kinds; third = pooled }),
             mailbox-seen (a .pendings .now) (a .dones .now) (a .fulls .now) (at .h) (alike .flags),
           )
           (ap₂ _&&_ (c .before .owner-unused .ensures) (c .mailbox-empty .ensures))),
@@ -70,16 +74,16 @@ loop-again c =
 
 returns : tie.Need-returns Inv-loop μ-loop
 returns c =
-    let a = c .before .before .before .before .before .before .before .args in
+    let a = c .before .before .before .before .before .before .before .before .args in
     let done : c .before .loop .h ≡ length (a .owners .now) = omega arith in
     c .before .loop .inv .3
     ∙ ap
     (λ (n : ℕ).
     all-from n (a .count)
     (λ i.
-    owner-unused (owner-at (owners-in (a .owners .now) (a .receivings .now)) i)
+    owner-unused (owner-at (owners-in (a .owners .now) (a .receivings .now) (a .pools .now)) i)
     && mailbox-empty (mailbox-at (mailboxes-in (a .pendings .now) (a .dones .now) (a .fulls .now)) i)))
-    (done ∙ sym (zip-length _ (a .owners .now) (a .receivings .now) (c .before .before .before .before .before .before .before .pre .0 .kinds)))
+    (done ∙ sym (zip-3-length _ (a .owners .now) (a .receivings .now) (a .pools .now) (record { second = c .before .before .before .before .before .before .before .before .pre .0 .kinds; third = c .before .before .before .before .before .before .before .before .pre .1 })))
 
 pub objects-unused-spec : {M : Type 1} → statement M
 objects-unused-spec =
@@ -88,11 +92,12 @@ objects-unused-spec =
     Inv-loop
     μ-loop
     loop-holds
-    shared-slice-read-t16
+    shared-slice-read-t17
     shared-slice-read-ok
-    shared-slice-read-ok-2
     shared-slice-read-t20
-    shared-slice-read-t22
+    shared-slice-read-ok-2
+    shared-slice-read-t23
+    shared-slice-read-t25
     owner-unused-requires
     mailbox-empty-requires
     add-h

@@ -2,12 +2,13 @@
 use Prim.Native.Nat.{ℕ, _≤_, _-_}
 use mathlib.Core.Path.{_≡_, refl, ap, ap₂, _∙_}
 use Prim.Native.Nat.{_<_, min}
-use mathlib.Core.Bool.{true, _&&_}
+use mathlib.Core.Bool.{true, false, _&&_}
+use lib.Dec.{ltb}
 use lib.ListN.{getD}
 use Rattle.rules.specs.Repeat.{all-below}
-use Rattle.rules.specs.Core.{owner-at, mailbox-at, owner-valid, mailbox-valid}
-use Rattle.core_places.specs.Arrays.{owners-in, mailboxes-in}
-use Rattle.core_places.proofs.Laws.{owner-seen, mailbox-seen}
+use Rattle.rules.specs.Core.{mailbox-at, mailbox-valid}
+use Rattle.core_places.specs.Arrays.{mailboxes-in}
+use Rattle.core_places.proofs.Laws.{mailbox-seen}
 use Rattle.core_validity.specs.Tests.{objects-valid}
 use Rattle.core_validity.proofs.Laws.{all-below-more}
 use Rattle.core_validity.proofs.Parts.{byte-below}
@@ -17,7 +18,7 @@ use Rattle.core_validity.proofs.objects.objects_valid.Statement.{statem
 use Rattle.core_validity.proofs.objects.objects_valid.Tie as tie
 
 abbrev Inv-loop : tie.InvT-loop
-Inv-loop controller-count owners receivings pendings dones fulls count last ok₀ h₀ ok h = (last ≡ min (controller-count - 1) 255) × (h ≤ count) × (ok ≡ objects-valid controller-count (owners-in owners receivings) (mailboxes-in pendings dones fulls) h)
+Inv-loop controller-count owners receivings pendings dones fulls count last ok₀ h₀ ok h = (last ≡ min (controller-count - 1) 255) × (h ≤ count) × (ok ≡ objects-valid controller-count owners receivings (mailboxes-in pendings dones fulls) h)
 
 abbrev μ-loop : tie.MeasureT-loop
 μ-loop controller-count owners receivings pendings dones fulls count last ok₀ h₀ ok h = count - h
@@ -70,11 +71,10 @@ loop-again c =
       omega arith,
       all-below-more
           (λ i.
-          owner-valid (a .controller-count) (owner-at (owners-in (a .owners .now) (a .receivings .now)) i)
-          && mailbox-valid (owner-at (owners-in (a .owners .now) (a .receivings .now)) i .receiving) true
+          ltb (getD (a .owners .now) i 0) (a .controller-count)
+          && mailbox-valid (getD (a .receivings .now) i false) true
           (mailbox-at (mailboxes-in (a .pendings .now) (a .dones .now) (a .fulls .now)) i)) (at .h) (at .inv .2)
           (rw (
-            owner-seen (a .owners .now) (a .receivings .now) (at .h) (alike .kinds),
             mailbox-seen (a .pendings .now) (a .dones .now) (a .fulls .now) (at .h) (alike .flags),
             c .before .before .before .before .before .before .before .before .limited .ensures,
           )
@@ -88,7 +88,7 @@ returns c =
     c .before .loop .inv .2
     ∙ ap
     (λ (n : ℕ).
-    objects-valid (a .controller-count) (owners-in (a .owners .now) (a .receivings .now))
+    objects-valid (a .controller-count) (a .owners .now) (a .receivings .now)
     (mailboxes-in (a .pendings .now) (a .dones .now) (a .fulls .now)) n)
     done
 

@@ -25,6 +25,12 @@ element-copy-out-same-3 c = search needs
 element-copy-out-same-4 : tie.Need-element-copy-out-same-4 Inv-loop μ-loop
 element-copy-out-same-4 c = search needs
 
+element-copy-out-same-5 : tie.Need-element-copy-out-same-5 Inv-loop μ-loop
+element-copy-out-same-5 c = search needs
+
+element-copy-out-same-6 : tie.Need-element-copy-out-same-6 Inv-loop μ-loop
+element-copy-out-same-6 c = search needs
+
 add-h : tie.Need-add-h Inv-loop μ-loop
 add-h c = search needs
 
@@ -48,6 +54,8 @@ owners-spec =
     element-copy-out-same-2
     element-copy-out-same-3
     element-copy-out-same-4
+    element-copy-out-same-5
+    element-copy-out-same-6
     add-h
     loop-less
     loop-again

@@ -1,0 +1,2 @@
+-- The choice of who sends next.
+pub mod Choices

@@ -1,0 +1,3 @@
+-- What the contracts of this crate say beyond the rules.
+pub mod Choice
+pub mod Lent
