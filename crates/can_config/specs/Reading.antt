@@ -6,12 +6,13 @@ use mathlib.Core.List.{List}
 use lib.ListN.{getD}
 use lib.Dec.{ltb, leb}
 use Rattle.rules.specs.Repeat.{all-below, list-below}
-use Rattle.rules.specs.Core.{Owner, unused-owner, owner-valid, pool-valid}
-use Rattle.rules.specs.Configuration.{Configuration, version-of, owner-of, object-record, settings-agreed, configuration-of, accepted-bytes, no-configuration}
+use Rattle.rules.specs.Core.{Owner, unused-owner, owner-valid}
+use Rattle.rules.specs.Configuration.{Configuration, version-of, owner-of, object-record, configuration-of, accepted-bytes, no-configuration}
 use Rattle.rules.specs.Can.{Settings, can-format, settings-of, settings-valid, unused-settings}
 use Rattle.rules.specs.Chip.{chip}
 use Rattle.core_places.specs.View.{view-owner}
 use Rattle.can_state.specs.View.{view-settings}
+use Rattle.can_state.specs.Tests.{pools-agreed}
 use Rattle.can_config.specs.View.{view-setup}
 use Rattle.can_config.specs.declared.record.Record.{Record}
 use Rattle.can_config.specs.declared.setup.Reading.{Reading}
@@ -50,7 +51,7 @@ pub record Records-read (bytes : List ℕ) (version controller-count object-coun
 
 -- the pools of a configuration: each is valid, and its members agree
 abbrev pub pools-judged : Configuration can-format → Bool
-pools-judged c = all-below (c .object-count) (pool-valid (chip .objects) (c .owners)) && settings-agreed can-format (c .object-count) (c .owners) (c .settings)
+pools-judged c = pools-agreed (c .object-count) (c .owners) (c .settings)
 
 -- version and configuration where the bytes are accepted, and none where not
 pub record Configuration-read (bytes : List ℕ) (r : Reading) : Type 0 where

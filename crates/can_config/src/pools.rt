@@ -5,10 +5,6 @@ ghost use Rattle.rules.specs.Chip as rules;
 ghost use Rattle.can_config.specs.View.{view-setup};
 ghost use Rattle.can_config.specs.Reading.{pools-judged};
 use crate::setup::Setup;
-use can_chip::OBJECTS;
-use can_state::agreement::settings_agree;
-use core_validity::pools::lowest_members;
-use core_validity::pools::pools_valid;
 
 // Whether each pool is valid and its members agree in controller, payload and padding.
 pub fn pools_agree(setup: Setup) -> bool
@@ -20,10 +16,12 @@ pub fn pools_agree(setup: Setup) -> bool
     let pools = setup.pools;
     let payloads = setup.payloads;
     let paddings = setup.paddings;
-    let count = setup.object_count;
-    let mut table = [0; OBJECTS];
-    lowest_members(&receivings, &pools, count, &mut table);
-    let pooled = pools_valid(&owners, &receivings, &pools, &table, count);
-    let agreed = settings_agree(&receivings, &pools, &table, &payloads, &paddings, count);
-    pooled & agreed
+    can_state::agreement::pools_agree(
+        &owners,
+        &receivings,
+        &pools,
+        &payloads,
+        &paddings,
+        setup.object_count,
+    )
 }

@@ -3,7 +3,7 @@ use Prim.Native.Nat.{ℕ, zero, suc, _+_, _<_}
 use native.Mathlib.Numerals.{add-one}
 use native.Mathlib.Omega.{arith}
 use mathlib.Core.Path.{_≡_, refl, sym, ap₂, _∙_}
-use mathlib.Core.Bool.{Bool, true, false, not, cond, _&&_}
+use mathlib.Core.Bool.{Bool, true, false, not, cond, _&&_, true≢false}
 use mathlib.Core.List.{List, [], _∷_}
 use mathlib.Core.Logic.{_⊎_, inl, inr, ⊎-elim}
 use Rattle.rules.specs.Repeat.{all-below}
@@ -14,7 +14,7 @@ use Rattle.laws.proofs.Tests.{left, right, not-true, decide}
 use Rattle.laws.proofs.Repeat.{last-or-below}
 use Rattle.can_faults.specs.declared.fault.Rule.{Rule}
 use Rattle.can_faults.specs.declared.fault.Fault.{Fault}
-use Rattle.can_faults.specs.Fault.{is-accepted, Test, first-broken, pool-rules, pool-rule, no-fault, _then_, fault-at, first-fault, compared}
+use Rattle.can_faults.specs.Fault.{is-accepted, Test, first-broken, pool-rules, pool-rule, no-fault, _then_, fault-at, first-fault}
 
 -- every rule of the list is kept
 unfoldable pub all-kept : List Test → Bool
@@ -78,22 +78,23 @@ module _ (rule : ℕ → Rule) (lowest : ℕ → ℕ) where
     pub found : (n : ℕ) {low : ℕ} → h < n → is-accepted r ≡ false → low ≡ lowest h → record { rule = r; object = h; lowest = low } ≡ first-fault n rule lowest
     found n l broken e = rw (is, e) (sym (behind n l (rw is at broken)))
 
--- whom an object that sends is compared with is all that matters
-module _ (c : Configuration can-format) (a b : ℕ → ℕ) where
-  abbrev sends : ℕ → Type 0
-  sends h = owner-at (c .owners) h .receiving ≡ false
+-- whom object h is compared with matters only where it sends, and only then it breaks a rule
+module _ (c : Configuration can-format) (h : ℕ) where
+  abbrev sends : Type 0
+  sends = owner-at (c .owners) h .receiving ≡ false
 
-  same-fault : (h : ℕ) → (owner-at (c .owners) h .receiving ≡ true) ⊎ sends h → (sends h → a h ≡ b h)
-      → fault-at h (a h) (pool-rule c h (a h)) ≡ fault-at h (b h) (pool-rule c h (b h))
+  pub same-rule : (a b : ℕ) → (sends → a ≡ b) → pool-rule c h a ≡ pool-rule c h b
   unfolding first-broken pool-rules
-  same-fault h (inl receives) same = rw receives
-  same-fault h (inr is) same = rw (same is)
+  same-rule a b same = go (decide (owner-at (c .owners) h .receiving))
+    where
+      go : (owner-at (c .owners) h .receiving ≡ true) ⊎ sends → pool-rule c h a ≡ pool-rule c h b
+      go (inl receives) = rw receives
+      go (inr is) = rw (same is)
 
-  same-faults : (n : ℕ) → ((h : ℕ) → h < n → sends h → a h ≡ b h) → first-fault n (λ h. pool-rule c h (a h)) a ≡ first-fault n (λ h. pool-rule c h (b h)) b
-  unfolding first-fault
-  same-faults zero same = refl
-  same-faults (suc n) same =
-      ap₂ _then_ (same-faults n (λ h l. same h (omega arith))) (same-fault n (decide (owner-at (c .owners) n .receiving)) (same n (omega arith)))
-
-  pub compared-same : ((h : ℕ) → h < c .object-count → sends h → a h ≡ b h) → compared c a ≡ compared c b
-  compared-same same = same-faults (c .object-count) same
+  pub broken-sends : (a : ℕ) → is-accepted (pool-rule c h a) ≡ false → sends
+  unfolding first-broken pool-rules
+  broken-sends a broken = go (decide (owner-at (c .owners) h .receiving))
+    where
+      go : (owner-at (c .owners) h .receiving ≡ true) ⊎ sends → sends
+      go (inl receives) = absurd (true≢false (rw receives at broken))
+      go (inr is) = is

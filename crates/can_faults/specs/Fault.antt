@@ -154,12 +154,9 @@ abbrev pub records-fault : List ℕ → ℕ → ℕ → ℕ → Fault
 records-fault bytes version controller-count n =
     first-fault n (λ h. record-rule version controller-count h (object-record chip can-format bytes h)) (λ h. 0)
 
--- of the pools, each object beside another, and beside the lowest one of its pool
-abbrev pub compared : Configuration can-format → (ℕ → ℕ) → Fault
-compared c other = first-fault (c .object-count) (λ h. pool-rule c h (other h)) other
-
+-- of the pools, each object beside the lowest one of its pool
 abbrev pub pools-fault : Configuration can-format → Fault
-pools-fault c = compared c (lowest-of (c .owners))
+pools-fault c = first-fault (c .object-count) (λ h. pool-rule c h (lowest-of (c .owners) h)) (lowest-of (c .owners))
 
 -- the header and the total, then the records in rising order, then the pools
 unfoldable pub fault-of : List ℕ → Fault

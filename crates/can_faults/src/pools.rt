@@ -5,14 +5,14 @@ ghost use lib.ListN.{getD};
 ghost use lib.Dec.{eqb};
 ghost use Rattle.rules.specs.Chip as rules;
 ghost use Rattle.can_config.specs.View.{view-setup};
-ghost use Rattle.can_faults.specs.Fault.{pool-rule, compared, pools-fault};
+ghost use Rattle.can_faults.specs.Fault.{pool-rule, pools-fault};
 use crate::fault::Fault;
 use crate::fault::Rule;
 use crate::rule::is_accepted;
 use can_config::setup::Setup;
 use core_places::at::flag_at;
 use core_places::at::number_at;
-use core_validity::pools::lowest_members;
+use core_validity::pools::lowest_member;
 
 // One for each number that a byte can say, so that every pool has a place in the table, whatever its number.
 const POOLS: usize = 256;
@@ -47,13 +47,16 @@ fn pool_rule(setup: Setup, h: usize, other: usize) -> Rule
     Rule::Accepted
 }
 
-// The first object that breaks a rule beside the one that stands in the table for its pool.
-fn compared(setup: Setup, table: &[usize; POOLS]) -> Fault
-    ensures { λ r. ⌜ r ≡ compared (view-setup setup) (λ h. getD (now (table .entry)) (getD (setup .pools) h 0) 0) ⌝ }
+// The first object that differs from the lowest one of its pool, and the rule that it breaks.
+pub fn pools_fault(setup: Setup) -> Fault
+    requires { ⌜ setup .«object_count» ≤ rules.chip .objects ⌝ }
+    ensures { λ r. ⌜ r ≡ pools-fault (view-setup setup) ⌝ }
 {
+    let receivings = setup.receivings;
     let pools = setup.pools;
+    let mut table = [POOLS; POOLS];
     for h in 0..setup.object_count {
-        let lowest = table[number_at(&pools, h) as usize];
+        let lowest = lowest_member(&receivings, &pools, &mut table, h);
         let rule = pool_rule(setup, h, lowest);
         if !is_accepted(rule) {
             return Fault {
@@ -68,16 +71,4 @@ fn compared(setup: Setup, table: &[usize; POOLS]) -> Fault
         object: 0,
         lowest: 0,
     }
-}
-
-// The first object that differs from the lowest one of its pool, and the rule that it breaks.
-pub fn pools_fault(setup: Setup) -> Fault
-    requires { ⌜ setup .«object_count» ≤ rules.chip .objects ⌝ }
-    ensures { λ r. ⌜ r ≡ pools-fault (view-setup setup) ⌝ }
-{
-    let receivings = setup.receivings;
-    let pools = setup.pools;
-    let mut table = [0; POOLS];
-    lowest_members(&receivings, &pools, setup.object_count, &mut table);
-    compared(setup, &table)
 }

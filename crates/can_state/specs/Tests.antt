@@ -1,15 +1,18 @@
 -- The test of all settings in lent arrays.
 use Prim.Native.Nat.{ℕ}
 use mathlib.Core.Path.{_≡_}
-use mathlib.Core.Bool.{Bool, false, _&&_, _||_}
+use mathlib.Core.Bool.{Bool, false, _&&_}
 use mathlib.Core.List.{List}
 use lib.ListN.{length, getD}
-use lib.Dec.{eqb, ltb}
+use lib.Dec.{eqb}
 use Rattle.rules.specs.Repeat.{all-below}
-use Rattle.rules.specs.Configuration.{settings-at}
+use Rattle.rules.specs.Core.{Owner}
+use Rattle.rules.specs.Configuration.{settings-at, settings-place-valid, settings-agreed}
 use Rattle.rules.specs.Can as can
+use Rattle.rules.specs.Chip.{chip}
 use Rattle.core_places.specs.Arrays.{Alike}
 use Rattle.core_validity.specs.Tests.{all-from}
+use Rattle.core_validity.specs.Pools.{pools-valid}
 
 -- the arrays have a place for each of the same numbers
 pub record SettingsAlike (payloads paddings codes masks : List ℕ) : Type 0 where
@@ -29,9 +32,14 @@ pub record Carried (ss : List can.Settings) (payloads paddings : List ℕ) : Typ
   pub payload-is : (h : ℕ) → settings-at can.can-format ss h .payload ≡ getD payloads h 0
   pub padding-is : (h : ℕ) → settings-at can.can-format ss h .padding ≡ getD paddings h 0
 
--- object h receives, or has a pool in the table and agrees with the object that stands there
-abbrev pub agrees-at : List Bool → List ℕ → List ℕ → List ℕ → List ℕ → ℕ → Bool
-agrees-at receivings pools table payloads paddings h =
-    let lowest = getD table (getD pools h 0) 0 in
-    getD receivings h false
-    || ltb (getD pools h 0) (length table) && (eqb (getD payloads h 0) (getD payloads lowest 0) && eqb (getD paddings h 0) (getD paddings lowest 0))
+-- object h has the payload and the padding of another
+abbrev pub agrees-at : List ℕ → List ℕ → ℕ → ℕ → Bool
+agrees-at payloads paddings h other = eqb (getD payloads h 0) (getD payloads other 0) && eqb (getD paddings h 0) (getD paddings other 0)
+
+-- the settings of all places
+abbrev pub settings-places-valid : ℕ → List Owner → List can.Settings → Bool
+settings-places-valid count os ss = all-below (chip .objects) (settings-place-valid can.can-format count os ss)
+
+-- the pools of so many objects: each is valid, and its members agree
+abbrev pub pools-agreed : ℕ → List Owner → List can.Settings → Bool
+pools-agreed count os ss = pools-valid (chip .objects) os count && settings-agreed can.can-format count os ss

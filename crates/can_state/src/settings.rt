@@ -6,12 +6,9 @@ ghost use lib.ListN.{length};
 ghost use Rattle.rules.specs.Configuration as configuration;
 ghost use Rattle.rules.specs.Can as can;
 ghost use Rattle.rules.specs.Chip.{chip};
-ghost use mathlib.Core.Bool.{true};
 ghost use Rattle.core_places.specs.Arrays.{Alike, owners-in};
-ghost use Rattle.core_validity.specs.Pools.{Tabled, pools-valid};
 ghost use Rattle.can_state.specs.View.{view-settings, settings-in};
-ghost use Rattle.can_state.specs.Tests.{SettingsAlike, settings-suit, settings-rest};
-use crate::agreement::settings_agree;
+ghost use Rattle.can_state.specs.Tests.{SettingsAlike, settings-suit, settings-rest, settings-places-valid};
 use core_places::range::limited;
 
 pub struct Settings {
@@ -124,13 +121,10 @@ fn settings_rest(
     ok
 }
 
-// The settings of every place, where so many objects are in use and their pools are valid; whose the objects are does not matter. The table
-// holds the lowest member of each pool.
-pub fn all_settings_valid(
+// The settings of every place, where so many objects are in use; of the objects only the kinds matter.
+pub fn settings_places_valid(
     object_count: usize,
     receivings: &[bool],
-    pools: &[u8],
-    table: &[usize],
     payloads: &[u8],
     paddings: &[u8],
     codes: &[u32],
@@ -138,18 +132,14 @@ pub fn all_settings_valid(
 ) -> bool
     requires { ⌜ SettingsAlike (now payloads) (now paddings) (now codes) (now masks)
         × (length (now receivings) ≡ length (now payloads))
-        × (length (now payloads) ≡ chip .objects)
-        × (length (now table) ≡ chip .objects) ⌝ }
-    ensures { λ r. ⌜ ((owners before : List ℕ) → Alike owners (now (receivings .entry)) (now (pools .entry))
-        → Tabled (now (receivings .entry)) (now (pools .entry)) «object_count» before (now (table .entry)) → «object_count» ≤ chip .objects
-        → pools-valid (chip .objects) (owners-in owners (now (receivings .entry)) (now (pools .entry))) «object_count» ≡ true
+        × (length (now payloads) ≡ chip .objects) ⌝ }
+    ensures { λ r. ⌜ ((owners pools : List ℕ) → Alike owners (now (receivings .entry)) pools
         → r
-        ≡ configuration.all-settings-valid chip can.can-format «object_count» (owners-in owners (now (receivings .entry)) (now (pools .entry)))
+        ≡ settings-places-valid «object_count» (owners-in owners (now (receivings .entry)) pools)
         (settings-in (now (payloads .entry)) (now (paddings .entry)) (now (codes .entry)) (now (masks .entry)))) ⌝ }
 {
     let end = limited(object_count, payloads.len());
     let suit = settings_suit(receivings, payloads, paddings, codes, masks, end);
     let rest = settings_rest(payloads, paddings, codes, masks, end);
-    let agree = settings_agree(receivings, pools, table, payloads, paddings, end);
-    suit & rest & agree
+    suit & rest
 }

@@ -4,11 +4,10 @@ ghost use Rattle.rules.specs.State as rules;
 ghost use Rattle.rules.specs.Can.{can-format};
 ghost use Rattle.rules.specs.Chip.{chip};
 ghost use Rattle.can_state.specs.View.{view};
-use crate::settings::all_settings_valid;
+use crate::agreement::pools_agree;
+use crate::settings::settings_places_valid;
 use crate::state::State;
-use can_chip::OBJECTS;
-use core_validity::pools::lowest_members;
-use core_validity::validity::core_valid;
+use core_validity::validity::places_valid;
 
 // Whether the state is one that the driver can be in: reason 41 applies to every other.
 pub fn valid(s: State) -> bool
@@ -27,9 +26,7 @@ pub fn valid(s: State) -> bool
     let paddings = s.paddings;
     let codes = s.codes;
     let masks = s.masks;
-    let mut table = [0; OBJECTS];
-    lowest_members(&receivings, &pools, s.object_count, &mut table);
-    let core = core_valid(
+    let core = places_valid(
         s.initialised,
         s.controller_count,
         s.object_count,
@@ -42,17 +39,22 @@ pub fn valid(s: State) -> bool
         &pendings,
         &dones,
         &fulls,
-        &table,
     );
-    let settings = all_settings_valid(
+    let settings = settings_places_valid(
         s.object_count,
         &receivings,
-        &pools,
-        &table,
         &payloads,
         &paddings,
         &codes,
         &masks,
     );
-    core & settings
+    let pooled = pools_agree(
+        &owners,
+        &receivings,
+        &pools,
+        &payloads,
+        &paddings,
+        s.object_count,
+    );
+    core & settings & pooled
 }

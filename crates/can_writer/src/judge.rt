@@ -13,10 +13,9 @@ use crate::sayable::records_say;
 use can_chip::CONTROLLERS;
 use can_chip::OBJECTS;
 use can_config::header::known_version;
-use can_state::settings::all_settings_valid;
+use can_state::agreement::pools_agree;
+use can_state::settings::settings_places_valid;
 use core_validity::counts::counts_valid;
-use core_validity::pools::lowest_members;
-use core_validity::pools::pools_valid;
 
 // Whether Init accepts the configuration that stands in these arrays.
 fn configuration_valid(
@@ -42,21 +41,10 @@ fn configuration_valid(
     if !counts_valid(CONTROLLERS, OBJECTS, controller_count, object_count) {
         return false;
     }
-    let mut table = [0; OBJECTS];
-    lowest_members(receivings, pools, object_count, &mut table);
     let owned = owners_valid(controller_count, object_count, owners, receivings, pools);
-    let pooled = pools_valid(owners, receivings, pools, &table, object_count);
-    let suited = all_settings_valid(
-        object_count,
-        receivings,
-        pools,
-        &table,
-        payloads,
-        paddings,
-        codes,
-        masks,
-    );
-    owned & pooled & suited
+    let suited = settings_places_valid(object_count, receivings, payloads, paddings, codes, masks);
+    let pooled = pools_agree(owners, receivings, pools, payloads, paddings, object_count);
+    owned & suited & pooled
 }
 
 // Whether the version is known and says the configuration that stands in these arrays.

@@ -1,76 +1,123 @@
--- The table of the lowest members: a turn of the loop that fills it, and what an object finds there.
-use Prim.Native.Nat.{ℕ, suc, _≤_, _<_}
+-- The lowest member of each pool, in a table that is filled object by object in rising order.
+use Prim.Native.Nat.{ℕ, suc, _≤_, _<_, min}
 use native.Mathlib.Omega.{arith}
 use native.Mathlib.Decide.{ℕ-discrete}
-use mathlib.Core.Path.{_≡_, refl, sym, ap, _∙_}
-use mathlib.Core.Bool.{Bool, true, false, not, _&&_, and-false}
-use mathlib.Core.Logic.{_⊎_, inl, inr}
+use mathlib.Core.Path.{_≡_, refl, sym, _∙_}
+use mathlib.Core.Bool.{Bool, true, false, not, and-false}
+use mathlib.Core.Logic.{_⊎_, inl, inr, ⊎-elim}
 use mathlib.Core.List.{List}
-use lib.ListN.{length, getD, set}
+use lib.ListN.{length, getD, set, length-set, replicate, length-replicate, getD-replicate}
 use lib.Seq.{getD-set-same, getD-set-other}
 use lib.Dec.{eqb, ltb}
-use borrow.Author.Tests.{eq-eqb, ne-eqb, lt-ltb, le-ltb, ltb-false}
+use borrow.Author.Tests.{eq-eqb, ne-eqb, lt-ltb, ltb-true, ltb-false}
 use Rattle.rules.specs.Repeat.{lowest-or}
 use Rattle.rules.specs.Core.{owner-at, in-pool, lowest-of, pool-valid}
-use Rattle.laws.proofs.Tests.{both, decide}
-use Rattle.laws.proofs.Pools.{lowest-hit, lowest-ext}
+use Rattle.laws.proofs.Tests.{left, right, decide, not-true}
+use Rattle.laws.proofs.Pools.{lowest-found, lowest-hit, lowest-ext}
 use Rattle.core_places.specs.Arrays.{Alike, owners-in}
 use Rattle.core_places.proofs.Laws.{owner-seen, owned-in, pooled-in, member-seen}
 use Rattle.core_places.specs.Pools.{pooled}
-use Rattle.core_validity.specs.Pools.{Tabled}
+use Rattle.core_validity.specs.Pools.{has-pool, lowest-seen, table-with, Tabled, pool-beside}
 
-module _ (receivings : List Bool) (pools : List ℕ) where
-  -- object h belongs to a pool that the table has a place for
-  pub turn-set : (table : List ℕ) (n h q : ℕ) → n ≡ suc h → getD receivings h false ≡ false → getD pools h 0 < length table
-      → lowest-or h (pooled receivings pools q) (getD (set table (getD pools h 0) h) q 0) ≡ lowest-or n (pooled receivings pools q) (getD table q 0)
+-- The lowest number below h of which p holds, or else h: which number stands for none does not matter, if it is not lower than h.
+lowest-next : (h : ℕ) (p : ℕ → Bool) (none : ℕ) → h ≤ none → min (lowest-or h p none) h ≡ lowest-or h p h
+lowest-next h p none past = ⊎-elim nobody somebody (lowest-found h p none)
+  where
+    nobody : lowest-or h p none ≡ none → min (lowest-or h p none) h ≡ lowest-or h p h
+    nobody e = ⊎-elim (λ (n : lowest-or h p h ≡ h). rw (e, n) (let least : min none h ≡ h = omega arith in least)) clash (lowest-found h p h)
+      where
+        clash : (lowest-or h p h < h) × (p (lowest-or h p h) ≡ true) → min (lowest-or h p none) h ≡ lowest-or h p h
+        clash f =
+            let below : lowest-or h p h < h = f .0 in
+            let same = lowest-hit h p none (lowest-or h p h) below (f .1) ∙ sym (lowest-hit h p h (lowest-or h p h) below (f .1)) in
+            absurd (omega (arith, same, e))
+
+    somebody : (lowest-or h p none < h) × (p (lowest-or h p none) ≡ true) → min (lowest-or h p none) h ≡ lowest-or h p h
+    somebody f =
+        let below : lowest-or h p none < h = f .0 in
+        let same = lowest-hit h p none (lowest-or h p none) below (f .1) ∙ sym (lowest-hit h p h (lowest-or h p none) below (f .1)) in
+        let least : min (lowest-or h p none) h ≡ lowest-or h p none = omega arith in
+        least ∙ same
+
+module _ (receivings : List Bool) (pools : List ℕ) (none : ℕ) where
+  -- a table in which every pool has none
+  pub table-fresh : (places : ℕ) → Tabled receivings pools none 0 (replicate places none)
   unfolding lowest-or
-  turn-set table n h q e sends inside = rw e (go (ℕ-discrete (getD pools h 0) q))
-    where
-      go : Dec (getD pools h 0 ≡ q) → lowest-or h (pooled receivings pools q) (getD (set table (getD pools h 0) h) q 0) ≡ lowest-or (suc h) (pooled receivings pools q) (getD table q 0)
-      go (yes same) = rw (sends, ← same, eq-eqb (getD pools h 0) (getD pools h 0) refl, getD-set-same table (getD pools h 0) h 0 inside)
-      go (no other) = rw (sends, ne-eqb (getD pools h 0) q other, getD-set-other table (getD pools h 0) q h 0 (λ x. other (sym x)))
+  table-fresh places = record { lowest = λ q l. getD-replicate places q none 0 (rw (length-replicate places none) at l) }
 
-  -- object h belongs to none
-  pub turn-same : (table : List ℕ) (n h q : ℕ) → n ≡ suc h → pooled receivings pools q h ≡ false
-      → lowest-or h (pooled receivings pools q) (getD table q 0) ≡ lowest-or n (pooled receivings pools q) (getD table q 0)
-  unfolding lowest-or
-  turn-same table n h q e none = rw (e, none)
+  module _ (h : ℕ) (table : List ℕ) (tabled : Tabled receivings pools none h table) (past : h ≤ none) where
+    abbrev own : ℕ
+    own = getD pools h 0
 
-  -- it receives, or its pool is beyond the table
-  pub in-none : (h q n : ℕ) → (not (getD receivings h false) && ltb (getD pools h 0) n) ≡ false → q < n → pooled receivings pools q h ≡ false
-  in-none h q n none inside = go (decide (getD receivings h false))
-    where
-      go : (getD receivings h false ≡ true) ⊎ (getD receivings h false ≡ false) → pooled receivings pools q h ≡ false
-      go (inl receives) = rw receives
-      go (inr sends) =
-          let past = ltb-false (getD pools h 0) n (rw sends at none) in
-          rw (ne-eqb (getD pools h 0) q (λ e. omega arith)) (and-false (not (getD receivings h false)))
+    -- the lower of the object and what stands in the table for its pool
+    lower : own < length table → min (getD table own 0) h ≡ lowest-or h (pooled receivings pools own) h
+    lower inside = rw (tabled .lowest own inside) (lowest-next h (pooled receivings pools own) none past)
 
--- what object h finds in the table is the lowest object of its pool
-pub table-lowest : (owners : List ℕ) (receivings : List Bool) (pools : List ℕ) (count : ℕ) (before table : List ℕ) → Alike owners receivings pools → Tabled receivings pools count before table
-    → (h : ℕ) → h < count → getD receivings h false ≡ false → getD pools h 0 < length table → getD table (getD pools h 0) 0 ≡ lowest-of (owners-in owners receivings pools) h
-table-lowest owners receivings pools count before table alike tabled h used sends inside =
-    let own = getD pools h 0 in
-    let os = owners-in owners receivings pools in
-    let member : pooled receivings pools own h ≡ true = both {a = not (getD receivings h false)} (rw sends) (eq-eqb own own refl) in
-    tabled .lowest own inside
-    ∙ lowest-hit count (pooled receivings pools own) (getD before own 0) h used member
-    ∙ lowest-ext h (pooled receivings pools own) (in-pool os (owner-at os h .pool)) h
-    (λ i l. rw (owner-seen owners receivings pools h alike) (sym (member-seen (owned-in owners receivings pools alike) (pooled-in owners receivings pools alike) own i)))
+    -- the table for one object more
+    pub table-more : Tabled receivings pools none (suc h) (table-with receivings pools table h)
+    unfolding lowest-or
+    table-more = go (decide (has-pool receivings pools table h))
+      where
+        same : (q : ℕ) → q < length table → pooled receivings pools q h ≡ false → getD table q 0 ≡ lowest-or (suc h) (pooled receivings pools q) none
+        same q l out = rw out (tabled .lowest q l)
 
--- The three ends of the test of object h's pool.
-module _ (owners : List ℕ) (receivings : List Bool) (pools : List ℕ) (alike : Alike owners receivings pools) (places h : ℕ) where
-  pub pool-receiving : getD receivings h false ≡ true → eqb (getD pools h 0) 0 ≡ pool-valid places (owners-in owners receivings pools) h
-  pool-receiving receives = rw (owner-seen owners receivings pools h alike, receives)
+        at : getD receivings h false ≡ false → own < length table → (q : ℕ) → q < length table → Dec (own ≡ q)
+            → getD (set table own (min (getD table own 0) h)) q 0 ≡ lowest-or (suc h) (pooled receivings pools q) none
+        at sends inside q l (yes e) =
+            rw (← e, getD-set-same table own (min (getD table own 0) h) 0 inside, lower inside, sends, eq-eqb own own refl)
+        at sends inside q l (no other) =
+            getD-set-other table own q (min (getD table own 0) h) 0 (λ x. other (sym x))
+            ∙ same q l (rw (ne-eqb own q other) (and-false (not (getD receivings h false))))
 
-  pub pool-inside : (count : ℕ) (before table : List ℕ) → Tabled receivings pools count before table → length table ≡ places → h < count → getD receivings h false ≡ false → getD pools h 0 < length table
-      → eqb (getD owners h 0) (getD owners (getD table (getD pools h 0) 0) 0) ≡ pool-valid places (owners-in owners receivings pools) h
-  pool-inside count before table tabled fits used sends inside =
-      let os = owners-in owners receivings pools in
-      let below : getD pools h 0 < places = omega arith in
-      let low = table-lowest owners receivings pools count before table alike tabled h used sends inside in
-      let agreed : pool-valid places os h ≡ eqb (getD owners h 0) (owner-at os (lowest-of os h) .controller) = rw (owner-seen owners receivings pools h alike, sends, lt-ltb (getD pools h 0) places below) in
-      rw (low, agreed, owner-seen owners receivings pools (lowest-of os h) alike)
+        go : (has-pool receivings pools table h ≡ true) ⊎ (has-pool receivings pools table h ≡ false) → Tabled receivings pools none (suc h) (table-with receivings pools table h)
+        go (inl t) =
+            let sends = not-true (getD receivings h false) (left (not (getD receivings h false)) (ltb own (length table)) t) in
+            let inside = ltb-true own (length table) (right (not (getD receivings h false)) (ltb own (length table)) t) in
+            rw t (record { lowest = λ q l. at sends inside q (rw (length-set table own (min (getD table own 0) h)) at l) (ℕ-discrete own q) })
+        go (inr t) = rw t (record { lowest = λ q l. same q l (out q l (decide (getD receivings h false))) })
+          where
+            out : (q : ℕ) → q < length table → (getD receivings h false ≡ true) ⊎ (getD receivings h false ≡ false) → pooled receivings pools q h ≡ false
+            out q l (inl receives) = rw receives
+            out q l (inr sends) =
+                let beyond = ltb-false own (length table) (rw sends at t) in
+                rw (ne-eqb own q (λ e. omega arith)) (and-false (not (getD receivings h false)))
 
-  pub pool-beyond : getD receivings h false ≡ false → places ≤ getD pools h 0 → false ≡ pool-valid places (owners-in owners receivings pools) h
-  pool-beyond sends past = rw (owner-seen owners receivings pools h alike, sends, le-ltb (getD pools h 0) places past)
+    -- what such an object finds is the lowest object of its pool
+    pub seen-lowest : (owners : List ℕ) → Alike owners receivings pools → getD receivings h false ≡ false → own < length table
+        → lowest-seen receivings pools table h ≡ lowest-of (owners-in owners receivings pools) h
+    seen-lowest owners alike sends inside =
+        let os = owners-in owners receivings pools in
+        rw (sends, lt-ltb own (length table) inside) (lower inside)
+        ∙ lowest-ext h (pooled receivings pools own) (in-pool os (owner-at os h .pool)) h
+        (λ i l. rw (owner-seen owners receivings pools h alike) (sym (member-seen (owned-in owners receivings pools alike) (pooled-in owners receivings pools alike) own i)))
+
+    -- the test beside it is the rules' test
+    pub beside-valid : (owners : List ℕ) → Alike owners receivings pools → length table ≡ length owners
+        → pool-beside owners receivings pools h (lowest-seen receivings pools table h) ≡ pool-valid (length owners) (owners-in owners receivings pools) h
+    beside-valid owners alike fits = go (decide (getD receivings h false)) (decide (ltb own (length owners)))
+      where
+        go : (getD receivings h false ≡ true) ⊎ (getD receivings h false ≡ false) → (ltb own (length owners) ≡ true) ⊎ (ltb own (length owners) ≡ false)
+            → pool-beside owners receivings pools h (lowest-seen receivings pools table h) ≡ pool-valid (length owners) (owners-in owners receivings pools) h
+        go (inl receives) t = rw (owner-seen owners receivings pools h alike, receives)
+        go (inr sends) (inr t) = rw (owner-seen owners receivings pools h alike, sends, t)
+        go (inr sends) (inl t) =
+            let os = owners-in owners receivings pools in
+            let inside = ltb-true own (length owners) t in
+            let low = seen-lowest owners alike sends (omega (arith, fits, inside)) in
+            let agreed : pool-valid (length owners) os h ≡ eqb (getD owners h 0) (owner-at os (lowest-of os h) .controller) = rw (owner-seen owners receivings pools h alike, sends, t) in
+            rw (low, sends, t, agreed, owner-seen owners receivings pools (lowest-of os h) alike)
+
+-- It is no higher than the object, and the table keeps its places.
+pub seen-within : (receivings : List Bool) (pools table : List ℕ) (h : ℕ) → lowest-seen receivings pools table h ≤ h
+seen-within receivings pools table h = go (decide (has-pool receivings pools table h))
+  where
+    go : (has-pool receivings pools table h ≡ true) ⊎ (has-pool receivings pools table h ≡ false) → lowest-seen receivings pools table h ≤ h
+    go (inl t) = rw t (let low : min (getD table (getD pools h 0) 0) h ≤ h = omega arith in low)
+    go (inr t) = rw t (omega arith)
+
+pub table-places : (receivings : List Bool) (pools table : List ℕ) (h : ℕ) → length (table-with receivings pools table h) ≡ length table
+table-places receivings pools table h = go (decide (has-pool receivings pools table h))
+  where
+    go : (has-pool receivings pools table h ≡ true) ⊎ (has-pool receivings pools table h ≡ false) → length (table-with receivings pools table h) ≡ length table
+    go (inl t) = rw t (length-set table (getD pools h 0) (min (getD table (getD pools h 0) 0) h))
+    go (inr t) = rw t

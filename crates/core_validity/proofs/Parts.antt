@@ -1,4 +1,4 @@
--- The tests of the arrays make up the test of the core.
+-- The tests of the arrays make up the test of all places.
 use Prim.Native.Nat.{ℕ, _≤_, _<_, _-_, min}
 use native.Mathlib.Omega.{arith}
 use mathlib.Core.Path.{_≡_, refl, sym, ap, _∙_}
@@ -10,14 +10,13 @@ use lib.Dec.{eqb, ltb, leb}
 use borrow.Author.Tests.{ltb-true, ltb-false, le-leb, lt-leb, leb-true, eq-eqb, eqb-true}
 use Rattle.rules.specs.Mode.{STARTED}
 use Rattle.rules.specs.Repeat.{all-below}
-use Rattle.rules.specs.Core.{Controller, Owner, Mailbox, Core, core-valid, has-places, owner-place-valid, controller-place-valid, mailbox-place-valid, owner-at, mailbox-at, controller-at, controller-of, is-started, controller-valid, controller-idle, owner-valid, owner-unused, mailbox-valid, mailbox-empty}
+use Rattle.rules.specs.Core.{Controller, Owner, Mailbox, Core, has-places, owner-place-valid, controller-place-valid, mailbox-place-valid, owner-at, mailbox-at, controller-at, controller-of, is-started, controller-valid, controller-idle, owner-valid, owner-unused, mailbox-valid, mailbox-empty}
 use Rattle.laws.proofs.Tests.{both, left, right, decide, same-truth, under}
 use Rattle.laws.proofs.Repeat.{all-facts, facts-all}
 use Rattle.core_places.specs.Arrays.{Alike, controllers-in, owners-in, mailboxes-in, core-in}
 use Rattle.core_places.proofs.Laws.{zip-3-length, controller-seen, owner-seen, mailbox-seen}
 use Rattle.core_validity.specs.Arrays.{limits-of, Places}
-use Rattle.core_validity.specs.Tests.{counts-suit, controllers-valid, controllers-idle, objects-valid, objects-unused, waiting-started}
-use Rattle.core_validity.specs.Pools.{pools-valid}
+use Rattle.core_validity.specs.Tests.{counts-suit, controllers-valid, controllers-idle, objects-valid, objects-unused, waiting-started, places-valid}
 use Rattle.core_validity.proofs.Laws.{and-pairs, all-below-ext, all-below-and, by-use, by-count}
 
 -- An owner is a byte: it is below the count if it is at most the largest byte below the count.
@@ -79,11 +78,6 @@ mailbox-parts receiving started m = go receiving started (m .tx-pending) (not (m
     go false true true a b = sym (and-true (a && b))
     go false false true a b = sym (and-false (a && b))
 
--- The test of the pools may stand last.
-pooled-last : (owned pooled controllers mailboxes : Bool) → (owned && pooled && controllers && mailboxes) ≡ (owned && controllers && mailboxes && pooled)
-pooled-last owned true controllers mailboxes = rw (and-true owned) (sym (and-true (owned && controllers && mailboxes)))
-pooled-last owned false controllers mailboxes = rw (and-false owned) (sym (and-false (owned && controllers && mailboxes)))
-
 -- The tests of owners, controllers and mailboxes, grouped by what is in use.
 regrouped : (owners controllers mailboxes a b c d : Bool) → (owners && mailboxes) ≡ (b && d) → controllers ≡ (a && c)
     → (owners && controllers && mailboxes) ≡ (a && b && (c && d))
@@ -112,11 +106,11 @@ module _ (initialised : Bool) (controller-count object-count : ℕ) (modes reque
   counts = counts-suit (limits-of (length modes) (length owners)) initialised controller-count object-count
 
   abbrev test : Bool
-  test = core-valid (limits-of (length modes) (length owners)) core
+  test = places-valid (limits-of (length modes) (length owners)) core
 
   -- Counts that do not suit refuse any core.
   pub counts-refuse : counts ≡ false → false ≡ test
-  unfolding core-valid
+  unfolding places-valid
   counts-refuse e = rw (e, and-false (has-places (limits-of (length modes) (length owners)) core))
 
   -- the objects in use, as the rules ask
@@ -148,19 +142,15 @@ module _ (initialised : Bool) (controller-count object-count : ℕ) (modes reque
   -- What is in use, and what is not.
   by-places : counts ≡ true → controller-count ≤ length modes → object-count ≤ length owners
       → test
-      ≡ (controllers-valid ks controller-count && all-below object-count object-in-use && (controllers-idle ks controller-count && objects-unused os ms object-count)
-      && pools-valid (length owners) os object-count)
-  unfolding core-valid
+      ≡ (controllers-valid ks controller-count && all-below object-count object-in-use && (controllers-idle ks controller-count && objects-unused os ms object-count))
+  unfolding places-valid
   by-places e c o =
       let owned = all-below (length owners) (owner-place-valid controller-count object-count os) in
       let controls = all-below (length modes) (controller-place-valid core) in
       let boxes = all-below (length owners) (mailbox-place-valid core) in
-      let pooled = pools-valid (length owners) os object-count in
       rw (all-places, e)
-      (pooled-last owned pooled controls boxes
-      ∙ ap (λ (b : Bool). b && pooled)
       (regrouped owned controls boxes (controllers-valid ks controller-count) (all-below object-count object-in-use)
-      (controllers-idle ks controller-count) (objects-unused os ms object-count) (objects-parts o) (controllers-parts c)))
+      (controllers-idle ks controller-count) (objects-unused os ms object-count) (objects-parts o) (controllers-parts c))
 
   -- an object in use, as far as it shows itself
   abbrev alone : ℕ → Bool
@@ -200,8 +190,7 @@ module _ (initialised : Bool) (controller-count object-count : ℕ) (modes reque
   pub initialised-parts : counts ≡ true → controller-count ≤ length modes → object-count ≤ length owners → ((h : ℕ) → getD owners h 0 < 256)
       → (controllers-valid ks controller-count
       && (objects-valid controller-count owners receivings ms object-count && waiting-started (min controller-count 256) modes owners pendings object-count)
-      && (controllers-idle ks controller-count && objects-unused os ms object-count)
-      && pools-valid (length owners) os object-count)
+      && (controllers-idle ks controller-count && objects-unused os ms object-count))
       ≡ test
   initialised-parts e c o byte = sym (by-places e c o ∙ rw (waiting-parts byte))
 
@@ -212,8 +201,7 @@ module _ (initialised : Bool) (controller-count object-count : ℕ) (modes reque
   uninitialised-parts e c o =
       let no-controllers : controllers-valid ks controller-count ≡ true = ap (λ (n : ℕ). controllers-valid ks n) c in
       let no-objects : all-below object-count object-in-use ≡ true = ap (λ (n : ℕ). all-below n object-in-use) o in
-      let no-pools : pools-valid (length owners) os object-count ≡ true = ap (λ (n : ℕ). pools-valid (length owners) os n) o in
-      sym (by-places e (omega arith) (omega arith) ∙ rw (no-controllers, no-objects, no-pools) (and-true (controllers-idle ks controller-count && objects-unused os ms object-count)))
+      sym (by-places e (omega arith) (omega arith) ∙ rw (no-controllers, no-objects))
 
 -- What the counts say of the places.
 module _ (n m controller-count object-count : ℕ) (initialised : Bool) (suit : counts-suit (limits-of n m) initialised controller-count object-count ≡ true) where

@@ -7,7 +7,7 @@ use lib.Dec.{eqb, ltb}
 use Rattle.rules.specs.Limits.{Limits}
 use Rattle.rules.specs.Mode.{STARTED}
 use Rattle.rules.specs.Repeat.{all-below}
-use Rattle.rules.specs.Core.{Controller, Owner, Mailbox, controller-at, owner-at, mailbox-at, controller-valid, controller-idle, owner-unused, mailbox-valid, mailbox-empty, counts-valid}
+use Rattle.rules.specs.Core.{Controller, Owner, Mailbox, Core, controller-at, owner-at, mailbox-at, controller-valid, controller-idle, owner-unused, mailbox-valid, mailbox-empty, counts-valid, has-places, nothing-in-use, owner-place-valid, controller-place-valid, mailbox-place-valid}
 
 -- p holds of every place below n but the first ones, so many as the count says
 abbrev pub all-from : ℕ → ℕ → (ℕ → Bool) → Bool
@@ -46,3 +46,12 @@ started-or-none owners pendings count mode c = eqb mode STARTED || none-waits ow
 -- so it is of every controller below a number
 abbrev pub waiting-started : ℕ → List ℕ → List ℕ → List Bool → ℕ → Bool
 waiting-started controllers modes owners pendings count = all-below controllers (λ c. started-or-none owners pendings count (getD modes c 0) c)
+
+-- a valid core, but for its pools
+unfoldable pub places-valid : Limits → Core → Bool
+places-valid L core =
+    has-places L core
+    && cond (core .initialised) (counts-valid L (core .controller-count) (core .object-count)) (nothing-in-use core)
+    && all-below (L .objects) (owner-place-valid (core .controller-count) (core .object-count) (core .owners))
+    && all-below (L .controllers) (controller-place-valid core)
+    && all-below (L .objects) (mailbox-place-valid core)

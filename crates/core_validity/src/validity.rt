@@ -1,23 +1,19 @@
-// When a core is valid.
+// When the places of a core are valid.
 ghost use mathlib.Core.Path.{_≡_};
-ghost use mathlib.Core.List.{List};
-ghost use Prim.Native.Nat.{ℕ, min};
 ghost use lib.ListN.{length};
-ghost use Rattle.rules.specs.Core as rules;
 ghost use Rattle.core_places.specs.Arrays.{core-in};
 ghost use Rattle.core_validity.specs.Arrays.{limits-of, Places};
-ghost use Rattle.core_validity.specs.Pools.{Tabled};
+ghost use Rattle.core_validity.specs.Tests as tests;
 use crate::controllers::controllers_idle;
 use crate::controllers::controllers_valid;
 use crate::counts::counts_suit;
 use crate::objects::objects_unused;
 use crate::objects::objects_valid;
-use crate::pools::pools_valid;
 use crate::waiting::waiting_started;
 
-// Whether the core is one that the driver can be in, where there are as many places as the arrays have. The table holds the lowest member of
-// each pool among the objects in use.
-pub fn core_valid(
+// Whether the core is one that the driver can be in, where there are as many places as the arrays have, but for its pools: those are tested
+// beside it, together with what a format's members share.
+pub fn places_valid(
     initialised: bool,
     controller_count: usize,
     object_count: usize,
@@ -30,15 +26,12 @@ pub fn core_valid(
     pendings: &[bool],
     dones: &[bool],
     fulls: &[bool],
-    table: &[usize],
 ) -> bool
-    requires { ⌜ Places (now modes) (now requests) (now marks) (now owners) (now receivings) (now pools) (now pendings) (now dones) (now fulls)
-        × (length (now table) ≡ length (now owners)) ⌝ }
-    ensures { λ r. ⌜ ((before : List ℕ) → Tabled (now (receivings .entry)) (now (pools .entry)) (min «object_count» (length (now (pools .entry)))) before (now (table .entry))
-        → r
-        ≡ rules.core-valid (limits-of (length (now (modes .entry))) (length (now (owners .entry))))
+    requires { ⌜ Places (now modes) (now requests) (now marks) (now owners) (now receivings) (now pools) (now pendings) (now dones) (now fulls) ⌝ }
+    ensures { λ r. ⌜ r
+        ≡ tests.places-valid (limits-of (length (now (modes .entry))) (length (now (owners .entry))))
         (core-in initialised «controller_count» «object_count» (now (modes .entry)) (now (requests .entry)) (now (marks .entry)) (now (owners .entry))
-        (now (receivings .entry)) (now (pools .entry)) (now (pendings .entry)) (now (dones .entry)) (now (fulls .entry)))) ⌝ }
+        (now (receivings .entry)) (now (pools .entry)) (now (pendings .entry)) (now (dones .entry)) (now (fulls .entry))) ⌝ }
 {
     let counts = counts_suit(
         modes.len(),
@@ -74,6 +67,5 @@ pub fn core_valid(
         object_count,
     );
     let waiting = waiting_started(controller_count, modes, owners, pendings, object_count);
-    let pooled = pools_valid(owners, receivings, pools, table, object_count);
-    controllers & (objects & waiting) & (idle & unused) & pooled
+    controllers & (objects & waiting) & (idle & unused)
 }

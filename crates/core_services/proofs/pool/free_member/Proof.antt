@@ -1,9 +1,8 @@
 -- Until the loop is done, the lowest free member is the lowest of those not yet passed, or else the one found.
-use Prim.Native.Nat.{ℕ, suc, _≤_, _-_}
+use Prim.Native.Nat.{suc, _≤_, _-_}
 use native.Mathlib.Omega.{arith}
 use mathlib.Core.Path.{_≡_, refl}
-use mathlib.Core.Bool.{cond}
-use borrow.Author.Needs.{needs}
+use mathlib.Core.Bool.{true, false, cond}
 use Rattle.rules.specs.Repeat.{lowest-or}
 use Rattle.core_services.specs.Pool.{free-pooled}
 use Rattle.core_services.proofs.pool.free_member.Statement.{statement}
@@ -42,7 +41,8 @@ loop-again c =
     let p = free-pooled (a .receivings .now) (a .pools .now) (a .pendings .now) (a .pool) in
     let next : at .i ≡ suc i = omega arith in
     let before : lowest-or i p (cond (p i) i (at .member)) ≡ lowest-or (a .count) p (a .h) = rw next at (at .inv .1) in
-    (omega arith, rw (c .if1 .taken) at before)
+    let free : p i ≡ true = c .if1 .taken in
+    (omega arith, rw free at before)
 
 loop-less-2 : tie.Need-loop-less-2 Inv-loop μ-loop
 loop-less-2 c = omega arith
@@ -56,7 +56,8 @@ loop-again-2 c =
     let p = free-pooled (a .receivings .now) (a .pools .now) (a .pendings .now) (a .pool) in
     let next : at .i ≡ suc i = omega arith in
     let before : lowest-or i p (cond (p i) i (at .member)) ≡ lowest-or (a .count) p (a .h) = rw next at (at .inv .1) in
-    (omega arith, rw (c .if1 .left) at before)
+    let other : p i ≡ false = c .if1 .left in
+    (omega arith, rw other at before)
 
 returns : tie.Need-returns Inv-loop μ-loop
 unfolding lowest-or
