@@ -41,6 +41,13 @@ fn judge_sending(initialised: bool, named: bool) -> Verdict
     }
 }
 
+// A frame waits in the mailbox; one that is gone does so until it is confirmed.
+fn is_occupied(m: Mailbox) -> bool
+    ensures { λ r. ⌜ r ≡ view-mailbox m .tx-pending ⌝ }
+{
+    m.tx_pending
+}
+
 // Reasons 35 and 36: the controller is STARTED, and no frame waits in the mailbox.
 fn judge_free(k: Controller, m: Mailbox) -> Verdict
     ensures { λ r. ⌜ verdict-reason r ≡ first-reason (free-checks (view-controller k) (view-mailbox m)) ⌝ }
@@ -48,7 +55,7 @@ fn judge_free(k: Controller, m: Mailbox) -> Verdict
     if k.mode != STARTED {
         return Verdict::Rejected(Rejection::NotStarted);
     }
-    if m.tx_pending {
+    if is_occupied(m) {
         Verdict::Rejected(Rejection::ObjectBusy)
     } else {
         Verdict::Accepted
