@@ -2,7 +2,7 @@
 pub mod bytes;
 pub mod header;
 pub mod outline;
-pub mod pools;
+mod pools;
 pub mod read;
 pub mod record;
 pub mod records;
