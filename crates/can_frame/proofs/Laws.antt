@@ -1,23 +1,23 @@
--- Laws of the two searches in a list of lengths, for any list, and of a test that holds of every number below some n.
+-- Laws of the two searches in a list of lengths that find none, for any list, and of a test that holds of every number below some n.
 -- Assumes nothing.
-use Prim.Native.Nat.{ℕ, zero, suc, _<_, _≤_}
+use Prim.Native.Nat.{ℕ, zero, suc, _<_}
 use mathlib.Core.Path.{_≡_, refl, subst, sym}
 use mathlib.Core.Bool.{Bool, true, false, _&&_}
 use mathlib.Core.List.{List, [], _∷_}
 use mathlib.Core.Logic.{⊎-elim}
 use native.Mathlib.Omega.{arith}
 use native.Mathlib.Nat.{eq-or-lt-of-le, le-of-suc-le-suc}
-use lib.Dec.{T, leb, leb→le, eqb, eqb→eq}
-use lib.ListN.{length, take, getD}
-use borrow.Author.Tests.{le-leb, lt-leb}
+use lib.Dec.{T, leb, leb→le}
+use lib.ListN.{length}
+use borrow.Author.Tests.{lt-leb}
 use Rattle.rules.specs.Repeat.{all-below}
 use Rattle.rules.specs.Can.{next-length, lengths-below}
 
-and-left : (a b : Bool) → T (a && b) → T a
+pub and-left : (a b : Bool) → T (a && b) → T a
 and-left true b t = tt
 and-left false b t = t
 
-and-right : (a b : Bool) → T (a && b) → T b
+pub and-right : (a b : Bool) → T (a && b) → T b
 and-right true b t = t
 and-right false b t = absurd t
 
@@ -30,29 +30,6 @@ at-most m (l ∷ ls) = leb l m && at-most m ls
 passed : {m n : ℕ} → m < n → (l : ℕ) (ls : List ℕ) → T (at-most m (l ∷ ls)) → leb n l ≡ false
 passed {m} {n} above l ls low = lt-leb n l (omega (arith, leb→le l m (and-left (leb l m) (at-most m ls) low)))
 
--- the search for n stops at position k, if n passes the lengths before it and is at most the length there
-stops-at :
-    (ls : List ℕ) (k : ℕ) {m n : ℕ} →
-    T (at-most m (take k ls)) →
-    m < n →
-    n ≤ getD ls k 0 →
-    (getD ls k 0 ≡ next-length ls n) × (k ≡ lengths-below ls n)
-unfolding next-length lengths-below
-stops-at [] k low above below = absurd (omega arith)
-stops-at (l ∷ ls) zero {m} {n} low above below = (rw (le-leb n l below), rw (le-leb n l below))
-stops-at (l ∷ ls) (suc k) {m} {n} low above below =
-    let rest = stops-at ls k (and-right (leb l m) (at-most m (take k ls)) low) above below in
-    rw (passed above l (take k ls) low) (rest .0, omega (arith, rest .1))
-
--- n lies above the length at position k and is at most the next one, which the search then finds
-pub stops-after :
-    (ls : List ℕ) (k : ℕ) {n : ℕ} →
-    T (at-most (getD ls k 0) (take (suc k) ls)) →
-    getD ls k 0 < n →
-    n ≤ getD ls (suc k) 0 →
-    (getD ls (suc k) 0 ≡ next-length ls n) × (suc k ≡ lengths-below ls n)
-stops-after ls k low above below = stops-at ls (suc k) low above below
-
 -- n is above every length, so the search finds none
 pub passes-all : (ls : List ℕ) (m : ℕ) {n : ℕ} → T (at-most m ls) → m < n → (255 ≡ next-length ls n) × (length ls ≡ lengths-below ls n)
 unfolding next-length lengths-below
@@ -62,7 +39,7 @@ passes-all (l ∷ ls) m low above =
     rw (passed above l ls low) (rest .0, omega (arith, rest .1))
 
 -- what holds of every number below n holds of each
-below-at : (n : ℕ) (p : ℕ → Bool) → T (all-below n p) → (k : ℕ) → k < n → T (p k)
+pub below-at : (n : ℕ) (p : ℕ → Bool) → T (all-below n p) → (k : ℕ) → k < n → T (p k)
 unfolding all-below
 below-at zero p t k h = absurd (omega arith)
 below-at (suc n) p t k h =
@@ -70,7 +47,3 @@ below-at (suc n) p t k h =
     (λ e. subst (λ (i : ℕ). T (p i)) (sym e) (and-right (all-below n p) (p n) t))
     (λ l. below-at n p (and-left (all-below n p) (p n) t) k l)
     (eq-or-lt-of-le (le-of-suc-le-suc h))
-
--- a function that a test shows to change no number below n changes none of them
-pub same-below : (n : ℕ) (f : ℕ → ℕ) → T (all-below n (λ k. eqb k (f k))) → (k : ℕ) → k < n → k ≡ f k
-same-below n f t k h = eqb→eq k (f k) (below-at n (λ i. eqb i (f i)) t k h)

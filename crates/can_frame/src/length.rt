@@ -1,5 +1,6 @@
 // Data lengths, and the lengths that go on the wire.
 use crate::identifier::is_fd;
+use crate::table::wire_entry;
 ghost use mathlib.Core.Path.{_≡_};
 ghost use Rattle.rules.specs.Can as can;
 
@@ -19,40 +20,10 @@ pub struct WireLength {
 pub fn on_wire(length: usize) -> WireLength
     ensures { λ r. ⌜ (r .length ≡ can.wire-length length) × (r .dlc ≡ can.dlc-code length) ⌝ }
 {
-    match length {
-        0..=8 => WireLength {
-            length: length as u8,
-            dlc: length as u8,
-        },
-        9..=12 => WireLength { length: 12, dlc: 9 },
-        13..=16 => WireLength {
-            length: 16,
-            dlc: 10,
-        },
-        17..=20 => WireLength {
-            length: 20,
-            dlc: 11,
-        },
-        21..=24 => WireLength {
-            length: 24,
-            dlc: 12,
-        },
-        25..=32 => WireLength {
-            length: 32,
-            dlc: 13,
-        },
-        33..=48 => WireLength {
-            length: 48,
-            dlc: 14,
-        },
-        49..=64 => WireLength {
-            length: 64,
-            dlc: 15,
-        },
-        _ => WireLength {
-            length: 255,
-            dlc: 16,
-        },
+    let entry = wire_entry(length);
+    WireLength {
+        length: (entry / 256) as u8,
+        dlc: (entry % 256) as u8,
     }
 }
 

@@ -3,3 +3,4 @@ pub mod filter;
 pub mod identifier;
 pub mod length;
 pub mod settings;
+mod table;
