@@ -26,17 +26,14 @@ abbrev pub at-most : ℕ → List ℕ → Bool
 at-most m [] = true
 at-most m (l ∷ ls) = leb l m && at-most m ls
 
--- n, which is above m, passes a length that is at most m
-passed : {m n : ℕ} → m < n → (l : ℕ) (ls : List ℕ) → T (at-most m (l ∷ ls)) → leb n l ≡ false
-passed {m} {n} above l ls low = lt-leb n l (omega (arith, leb→le l m (and-left (leb l m) (at-most m ls) low)))
-
 -- n is above every length, so the search finds none
 pub passes-all : (ls : List ℕ) (m : ℕ) {n : ℕ} → T (at-most m ls) → m < n → (255 ≡ next-length ls n) × (length ls ≡ lengths-below ls n)
 unfolding next-length lengths-below
 passes-all [] m low above = (refl, refl)
-passes-all (l ∷ ls) m low above =
+passes-all (l ∷ ls) m {n} low above =
     let rest = passes-all ls m (and-right (leb l m) (at-most m ls) low) above in
-    rw (passed above l ls low) (rest .0, omega (arith, rest .1))
+    let passed = lt-leb n l (omega (arith, leb→le l m (and-left (leb l m) (at-most m ls) low))) in
+    rw passed (rest .0, omega (arith, rest .1))
 
 -- what holds of every number below n holds of each
 pub below-at : (n : ℕ) (p : ℕ → Bool) → T (all-below n p) → (k : ℕ) → k < n → T (p k)

@@ -16,6 +16,7 @@ wire-table =
     ++ (replicate 16 0x300E
     ++ replicate 16 0x400F))))))
 
+-- how many there are: 02's 65
 abbrev pub entries : ℕ
 entries = length wire-table
 
@@ -23,6 +24,7 @@ entries = length wire-table
 abbrev pub no-entry : ℕ
 no-entry = 0xFF10
 
+-- the entry of length n
 abbrev pub wire-entry : ℕ → ℕ
 wire-entry n = getD wire-table n no-entry
 
