@@ -1,25 +1,20 @@
-//! The four polls ("Services and polls").
+//! The four polls ("Services and polls"; 02, Q-4).
 //!
 //! A poll has no reason beyond 41, 32 and 33. Before Init it does nothing and
 //! answers 0: nothing is configured, so there is nothing to go through.
 
+use crate::config::ObjectConfig;
 use crate::mailbox;
 use crate::mode::Mode;
 use crate::notice::{Notice, Notices};
 use crate::outcome::{Outcome, Reason};
-use crate::state::{check_memory, check_sheet, State};
+use crate::state::{check_memory, check_sheet, ObjectPlace, State};
 
 impl State {
     /// Write poll: each gone object in rising order is confirmed and freed.
     pub fn poll_write(&mut self, sheet: &mut [u32], memory: &[u8]) -> Outcome<()> {
         self.poll(sheet, memory, |state, notices| {
-            for (object, place) in state.objects.iter_mut().enumerate() {
-                if place.gone {
-                    let handle = mailbox::handle(memory, object);
-                    notices.push(Notice::Confirmed { object, handle });
-                    place.free();
-                }
-            }
+            state.close_where(memory, notices, |place, _| place.gone);
         })
     }
 
@@ -38,8 +33,9 @@ impl State {
     }
 
     /// Mode poll: in rising order, skipping controllers marked off-bus, a
-    /// waiting request is carried out and cleared. Leaving STARTED cancels
-    /// first. A request for the present mode still gives the mode record.
+    /// waiting request is carried out and cleared. Leaving STARTED closes what
+    /// is occupied first. A request for the present mode still gives the mode
+    /// record.
     pub fn poll_mode(&mut self, sheet: &mut [u32], memory: &[u8]) -> Outcome<()> {
         self.poll(sheet, memory, |state, notices| {
             for controller in 0..state.config.controllers() {
@@ -51,7 +47,7 @@ impl State {
                     continue;
                 };
                 if place.mode == Mode::Started && mode != Mode::Started {
-                    state.cancel_all(controller, memory, notices);
+                    state.close_all(controller, memory, notices);
                 }
                 state.controllers[controller].mode = mode;
                 state.controllers[controller].request = None;
@@ -61,7 +57,7 @@ impl State {
     }
 
     /// Bus-off poll: for each marked controller, rising: its occupied objects
-    /// are cancelled and freed, the bus-off record follows, the mode becomes
+    /// are closed and freed, the bus-off record follows, the mode becomes
     /// STOPPED, mark and waiting request are cleared; no mode record.
     pub fn poll_bus_off(&mut self, sheet: &mut [u32], memory: &[u8]) -> Outcome<()> {
         self.poll(sheet, memory, |state, notices| {
@@ -69,7 +65,7 @@ impl State {
                 if !state.controllers[controller].off_bus {
                     continue;
                 }
-                state.cancel_all(controller, memory, notices);
+                state.close_all(controller, memory, notices);
                 notices.push(Notice::BusOff { controller });
                 let place = &mut state.controllers[controller];
                 place.mode = Mode::Stopped;
@@ -100,16 +96,37 @@ impl State {
         check_memory(memory)
     }
 
-    /// Cancels and frees every occupied object of a controller, rising, gone
-    /// ones too. Freeing changes no byte of memory.
-    fn cancel_all(&mut self, controller: usize, memory: &[u8], notices: &mut Notices) {
+    /// Closes every occupied object of a controller.
+    fn close_all(&mut self, controller: usize, memory: &[u8], notices: &mut Notices) {
+        self.close_where(memory, notices, |_, config| usize::from(config.controller) == controller);
+    }
+
+    /// Closes the occupied objects that pass the test, in one rising order: each
+    /// gets its notice and is freed. Freeing changes no byte of memory.
+    fn close_where(
+        &mut self,
+        memory: &[u8],
+        notices: &mut Notices,
+        test: impl Fn(&ObjectPlace, &ObjectConfig) -> bool,
+    ) {
         let configs = self.config.objects().iter();
         for (object, (place, config)) in self.objects.iter_mut().zip(configs).enumerate() {
-            if place.occupied && usize::from(config.controller) == controller {
-                let handle = mailbox::handle(memory, object);
-                notices.push(Notice::Cancelled { object, handle });
+            if place.occupied && test(place, config) {
+                notices.push(closing_notice(object, place, memory));
                 place.free();
             }
         }
+    }
+}
+
+/// The closing notice of an occupied object, whichever poll closes it: one "that
+/// is gone gets its confirmation (kind 1) at its place in the rising order, the
+/// others a cancellation" (02, Q-4). Nothing but its own mark counts.
+fn closing_notice(object: usize, place: &ObjectPlace, memory: &[u8]) -> Notice {
+    let handle = mailbox::handle(memory, object);
+    if place.gone {
+        Notice::Confirmed { object, handle }
+    } else {
+        Notice::Cancelled { object, handle }
     }
 }

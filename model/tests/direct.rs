@@ -1,10 +1,10 @@
-//! Rules that a script cannot show: any first memory, any sheet content, and
-//! states that are not sound.
+//! Rules that a script cannot show, or not in so few lines: any first memory, any
+//! sheet content, states that are not sound, and every mixture of objects to close.
 
 use pump_model::identifier::Identifier;
 use pump_model::mode::Mode;
 use pump_model::outcome::{Outcome, Reason};
-use pump_model::state::State;
+use pump_model::state::{ObjectPlace, State};
 
 /// The paper's configuration K.
 const K: [u8; 32] = [
@@ -100,6 +100,70 @@ fn records_are_read_from_the_memory_lent_to_that_call() {
     assert_eq!(state.poll_read(&mut sheet, &other).records, 1);
     assert_eq!(sheet[..4], [2, 1, 0xEEEE_EEEE, 0xEE]);
     assert!(sheet[4..].iter().all(|&word| word == 0xABCD_EF01));
+}
+
+/// Objects 0 to 2 send on controller 0, object 3 on controller 1; both are STARTED.
+/// Handle 10 + h lies in object h.
+fn four_sending() -> (State, Vec<u8>) {
+    let (mut state, mut sheet, mut memory) = (State::default(), vec![0; 144], vec![0; 2304]);
+    let mut bytes = b"CHB\x00\x01\x02\x04\x00".to_vec();
+    for controller in [0, 0, 0, 1] {
+        bytes.extend([controller, 0, 8, 0, 0, 0, 0, 0, 0, 0, 0, 0]);
+    }
+    assert_eq!(state.init(&bytes, &mut sheet, &mut memory).code(), 0);
+    for controller in [0, 1] {
+        assert_eq!(state.set_mode(controller, 1, &mut sheet).code(), 0);
+    }
+    assert_eq!(state.poll_mode(&mut sheet, &memory).code(), 0);
+    for object in 0..4 {
+        memory[72 * object + 7] = 10 + object as u8;
+    }
+    (state, memory)
+}
+
+type Poll = fn(&mut State, &mut [u32], &[u8]) -> Outcome<()>;
+
+/// The records that a poll writes on this state, and the objects it leaves.
+fn polled(poll: Poll, mut state: State, memory: &[u8]) -> (Vec<[u32; 4]>, [ObjectPlace; 4]) {
+    let mut sheet = vec![0xABCD_EF01; 144];
+    let outcome = poll(&mut state, &mut sheet, memory);
+    assert!(outcome.code() == 0 && state.is_sound());
+    let (written, rest) = sheet.split_at(4 * outcome.records);
+    assert!(rest.iter().all(|&word| word == 0xABCD_EF01));
+    let records = written.chunks_exact(4).map(|words| [words[0], words[1], words[2], words[3]]);
+    let [a, b, c, d, ..] = state.objects;
+    (records.collect(), [a, b, c, d])
+}
+
+#[test]
+fn an_object_is_closed_by_its_own_gone_mark_alone() {
+    let free = ObjectPlace::default();
+    let waiting = ObjectPlace { occupied: true, ..free };
+    let gone = ObjectPlace { gone: true, ..waiting };
+    let (started, memory) = four_sending();
+    for number in 0..81 {
+        let places = [1, 3, 9, 27].map(|power| [free, waiting, gone][number / power % 3]);
+        let mut state = started.clone();
+        state.objects[..4].copy_from_slice(&places);
+
+        let left = (0..4).filter(|&object| places[object].gone);
+        let confirmed = left.map(|object| [1, object as u32, 10 + object as u32, 0]).collect();
+        let others = places.map(|place| if place.gone { free } else { place });
+        assert_eq!(polled(State::poll_write, state.clone(), &memory), (confirmed, others));
+
+        let mut closed = Vec::new();
+        for object in (0..3).filter(|&object| places[object].occupied) {
+            let kind = if places[object].gone { 1 } else { 7 };
+            closed.push([kind, object as u32, 10 + object as u32, 0]);
+        }
+        let after = |last| ([&closed[..], &[last]].concat(), [free, free, free, places[3]]);
+        let mut stopped = state.clone();
+        stopped.controllers[0].request = Some(Mode::Stopped);
+        assert_eq!(polled(State::poll_mode, stopped, &memory), after([3, 0, 2, 0]));
+        let mut marked = state;
+        marked.controllers[0].off_bus = true;
+        assert_eq!(polled(State::poll_bus_off, marked, &memory), after([4, 0, 0, 0]));
+    }
 }
 
 #[test]

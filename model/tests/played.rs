@@ -1,4 +1,5 @@
-//! The lines P1 to P14 that the paper plays by hand.
+//! The lines P1 to P14 that the paper plays by hand, and beside P8 and P11 the mixed
+//! case that 02 asks for (Q-4).
 
 mod common;
 
@@ -12,6 +13,20 @@ const TO_P3: [&str; 3] = [K, "set 0 STARTED", "poll mode"];
 const P7: [&str; 2] = ["sent 0", "poll write"];
 const P8: [&str; 3] = [P5, "set 0 STOPPED", "poll mode"];
 const P9: [&str; 2] = ["set 0 STARTED", "poll mode"];
+
+/// Three objects that send on controller 0, each with a write of its own handle; one is sent.
+const MIXED: [&str; 7] = [
+    "init 4348420001010300\
+     000040CC0000000000000000\
+     000040CC0000000000000000\
+     000040CC0000000000000000",
+    "set 0 STARTED",
+    "poll mode",
+    "write 0 7 40000123 01",
+    "write 1 8 40000123 02",
+    "write 2 9 40000123 03",
+    "sent 1",
+];
 
 fn sequence(parts: &[&[&'static str]]) -> Vec<&'static str> {
     parts.concat()
@@ -77,6 +92,19 @@ fn p8_stop_cancels() {
 }
 
 #[test]
+fn p8_mixed_a_stop_confirms_what_was_sent() {
+    assert_eq!(
+        after(&MIXED, &["set 0 STOPPED", "poll mode", "poll write", "get 0"]),
+        [
+            "set 0 0 -",
+            "poll-mode 0 0 - [7 0 7 0] [1 1 8 0] [7 2 9 0] [3 0 2 0]",
+            "poll-write 0 0 -",
+            "get 0 0 2"
+        ]
+    );
+}
+
+#[test]
 fn p9_stored_then_lost_then_read() {
     let front = sequence(&[&TO_P3, &[P5], &P7, &P8, &P9]);
     let arrival = "arrived 0 00000120 0102030405060708";
@@ -106,6 +134,19 @@ fn p11_bus_off() {
     assert_eq!(
         after(&front, &["busoff 0", P5, "poll busoff", "get 0"]),
         ["busoff 0 0 -", "write 0 0 0", "poll-busoff 0 0 - [7 0 7 0] [4 0 0 0]", "get 0 0 2"]
+    );
+}
+
+#[test]
+fn p11_mixed_a_bus_off_confirms_what_was_sent() {
+    assert_eq!(
+        after(&MIXED, &["busoff 0", "poll busoff", "poll write", "get 0"]),
+        [
+            "busoff 0 0 -",
+            "poll-busoff 0 0 - [7 0 7 0] [1 1 8 0] [7 2 9 0] [4 0 0 0]",
+            "poll-write 0 0 -",
+            "get 0 0 2"
+        ]
     );
 }
 

@@ -1,7 +1,8 @@
 //! Random nights, judged by books that are kept apart from the model: every
 //! state is sound, the mode book agrees, every accepted write takes the lowest free
 //! member of the pool that it names, and is closed once, by a record with its own
-//! handle, its 72 bytes untouched till then.
+//! handle, its 72 bytes untouched till then. It is confirmed exactly if it was sent
+//! since, and else cancelled, whichever poll closes it.
 
 use std::collections::{BTreeMap, BTreeSet};
 
@@ -133,28 +134,20 @@ impl FrameBook {
         let mut indicated = Vec::new();
         for record in &printed.records {
             match record[0] {
-                1 => {
-                    assert_eq!(printed.name, "poll-write");
-                    assert!(self.sent.remove(&record[1]), "confirmed but not sent");
-                    self.close(record);
-                }
+                1 | 7 => self.close(&printed.name, record),
                 2 => indicated.push((record[1], (record[2], record[3]))),
-                7 => {
-                    assert!(printed.name == "poll-mode" || printed.name == "poll-busoff");
-                    self.sent.remove(&record[1]);
-                    self.close(record);
-                }
                 _ => (),
             }
         }
         match printed.name.as_str() {
             "write" => self.open_write(plain_number(&printed.answer), words, memory),
-            "sent" => assert!(self.sent.insert(plain_number(words[1])), "sent twice"),
+            "sent" => self.leave(plain_number(words[1])),
             "poll-write" => assert!(self.sent.is_empty(), "sent but not confirmed"),
             "poll-read" => assert!(std::mem::take(&mut self.stored).into_iter().eq(indicated)),
             "arrived" => self.store(&printed.answer, words),
             "deinit" => {
                 assert!(self.open.is_empty(), "a write left open");
+                assert!(self.sent.is_empty(), "sent but not confirmed");
                 self.stored.clear();
             }
             _ => (),
@@ -209,10 +202,32 @@ impl FrameBook {
         assert_eq!(printed.answer, expected, "{bits:?}");
     }
 
-    /// A record of kind 1 or 7 closes a write and carries its handle.
-    fn close(&mut self, record: &[u32]) {
+    /// A sent event belongs to a write that is open, and there is one for each.
+    fn leave(&mut self, object: u32) {
+        assert!(self.open.contains_key(&object), "sent but not written");
+        assert!(self.sent.insert(object), "sent twice");
+    }
+
+    /// A record of kind 1 or 7 closes a write and carries its handle: kind 1 if the
+    /// frame was sent since, else kind 7, and the write poll closes only what was.
+    fn close(&mut self, poll: &str, record: &[u32]) {
+        assert!(["poll-write", "poll-mode", "poll-busoff"].contains(&poll), "{poll} closes");
+        if self.sent.remove(&record[1]) {
+            assert_eq!(record[0], 1, "sent but cancelled");
+        } else {
+            assert_eq!(record[0], 7, "confirmed but not sent");
+            assert_ne!(poll, "poll-write");
+        }
         let (handle, _) = self.open.remove(&record[1]).expect("an open write");
         assert_eq!(record[2], handle);
+    }
+
+    /// Writes are open on STARTED controllers only: whatever leaves STARTED closes them.
+    fn judge_open(&self, config: &Config, modes: &[u32]) {
+        for &object in self.open.keys() {
+            let place = config.object(object).expect("a configured object");
+            assert_eq!(modes[usize::from(place.controller)], 1, "object {object} is left open");
+        }
     }
 
     fn store(&mut self, answer: &str, words: &[&str]) {
@@ -231,6 +246,23 @@ impl FrameBook {
     fn compare(&self, memory: &[u8]) {
         for (object, (_, bytes)) in &self.open {
             assert_eq!(mailbox::object_bytes(memory, *object), Some(&bytes[..]));
+        }
+    }
+}
+
+/// Judges the order of closings: rising, and those of a controller right before its
+/// own mode or bus-off record.
+fn judge_order(printed: &Printed, config: &Config) {
+    for part in printed.records.split_inclusive(|record| matches!(record[0], 3 | 4)) {
+        let closings = part.iter().filter(|record| matches!(record[0], 1 | 7));
+        let closed: Vec<u32> = closings.map(|record| record[1]).collect();
+        assert!(closed.is_sorted_by(|one, next| one < next), "{closed:?}");
+        let Some([3 | 4, controller, ..]) = part.last().map(|record| &record[..]) else {
+            continue;
+        };
+        for object in closed {
+            let place = config.object(object).expect("a configured object");
+            assert_eq!(u32::from(place.controller), *controller, "object {object}");
         }
     }
 }
@@ -303,9 +335,11 @@ fn judge(seed: u64, style: Style, lines: usize) -> (usize, usize, usize) {
             continue;
         }
         yes += 1;
+        judge_order(&printed, &bench.state().config);
         frames.judge_next(&printed, &words, &bench.state().config, &modes.marks);
         modes.note(&printed.name, &words);
         frames.note(&printed, &words, bench.memory());
+        frames.judge_open(&bench.state().config, &modes.modes);
         for (place, mode) in bench.state().controllers.iter().zip(modes.modes) {
             assert_eq!(place.mode.number(), mode);
         }
@@ -403,6 +437,7 @@ fn what_nights_are_made_of() {
         pools_fill_up_and_are_named_wrongly(style, &lines);
         it_is_asked_who_sends_next(style, &lines);
         the_writer_says_yes_and_no(style, &lines);
+        stops_and_bus_offs_meet_frames_that_had_left(style, &lines);
     }
 }
 
@@ -447,6 +482,35 @@ fn the_writer_says_yes_and_no(style: Style, lines: &[(String, String)]) {
     assert!(yes > 50 && bad > least, "{style:?}: {yes} written, {bad} cannot be said");
     let short = count(lines, "config 1 32 -");
     assert!(style == Style::Calm || short > least, "{style:?}: {short} are short");
+}
+
+/// The kinds of the records of mode polls and bus-off polls, a word for each
+/// controller: those of its closings, then 3 or 4.
+fn closings(lines: &[(String, String)]) -> Vec<String> {
+    let polls = lines.iter().map(|(_, answer)| answer).filter(|answer| {
+        answer.starts_with("poll-mode 0 0 ") || answer.starts_with("poll-busoff 0 0 ")
+    });
+    let records = polls.flat_map(|answer| answer.split('[').skip(1));
+    let kinds: String = records.filter_map(|record| record.chars().next()).collect();
+    kinds.split_inclusive(['3', '4']).map(str::to_string).collect()
+}
+
+fn stops_and_bus_offs_meet_frames_that_had_left(style: Style, lines: &[(String, String)]) {
+    let least = if style == Style::Calm { 80 } else { 25 };
+    let closings = closings(lines);
+    for (what, last) in [("stops", '3'), ("bus-offs", '4')] {
+        let count = |test: fn(&str) -> bool| {
+            closings.iter().filter(|kinds| kinds.ends_with(last) && test(kinds)).count()
+        };
+        let sent = count(|kinds| kinds.contains('1') && !kinds.contains('7'));
+        let both = count(|kinds| kinds.contains('1') && kinds.contains('7'));
+        // Neither all confirmations nor all cancellations come first.
+        let turns = count(|kinds| kinds.contains("17") && kinds.contains("71"));
+        assert!(
+            sent > least && both > least && turns > least / 2,
+            "{style:?} {what}: {sent} with sent frames alone, {both} with both, {turns} in turn"
+        );
+    }
 }
 
 #[test]

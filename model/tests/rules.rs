@@ -163,7 +163,40 @@ fn gone_objects_stay_occupied_until_a_poll() {
     );
     assert_eq!(
         after(&front, &["set 0 2", "poll mode", "poll write"]),
-        ["set 0 0 -", "poll-mode 0 0 - [7 0 7 0] [3 0 2 0]", "poll-write 0 0 -"]
+        ["set 0 0 -", "poll-mode 0 0 - [1 0 7 0] [3 0 2 0]", "poll-write 0 0 -"]
+    );
+    assert_eq!(
+        after(&front, &["busoff 0", "poll busoff", "poll write"]),
+        ["busoff 0 0 -", "poll-busoff 0 0 - [1 0 7 0] [4 0 0 0]", "poll-write 0 0 -"]
+    );
+}
+
+#[test]
+fn a_frame_that_had_left_is_confirmed_by_the_first_poll_and_by_no_other() {
+    let front = [&STARTED[..], &[P5, "sent 0", "set 0 2"]].concat();
+    assert_eq!(
+        after(&front, &["poll write", "poll mode", "poll busoff"]),
+        ["poll-write 0 0 - [1 0 7 0]", "poll-mode 0 0 - [3 0 2 0]", "poll-busoff 0 0 -"]
+    );
+    // A refused poll closes nothing.
+    assert_eq!(
+        after(&front, &["sheet 143", "poll mode", "sheet 144", "poll mode", "poll write"]),
+        ["poll-mode 1 32 -", "poll-mode 0 0 - [1 0 7 0] [3 0 2 0]", "poll-write 0 0 -"]
+    );
+}
+
+#[test]
+fn a_bus_off_takes_what_had_not_left_before_it() {
+    let front = [&BOTH[..], &["write 0 5 0 -", "sent 0", "busoff 0", "write 2 6 0 -"]].concat();
+    assert_eq!(
+        after(&front, &["sent 2", "set 0 2", "poll mode", "poll busoff", "poll write"]),
+        [
+            "sent 1 37 -",
+            "set 0 0 -",
+            "poll-mode 0 0 -",
+            "poll-busoff 0 0 - [1 0 5 0] [7 2 6 0] [4 0 0 0]",
+            "poll-write 0 0 -"
+        ]
     );
 }
 
@@ -243,6 +276,19 @@ fn polls_go_controller_by_controller() {
         after(&front, &["busoff 1", "busoff 0", "poll busoff"]).pop().expect("an answer"),
         "poll-busoff 0 0 - [7 0 0 0] [7 2 2 0] [4 0 0 0] [7 1 1 0] [4 1 0 0]"
     );
+    let some = [&front[..], &["sent 2", "sent 1"]].concat();
+    assert_eq!(
+        after(&some, &["set 0 2", "set 1 2", "poll mode"]).pop().expect("an answer"),
+        "poll-mode 0 0 - [7 0 0 0] [1 2 2 0] [3 0 2 0] [1 1 1 0] [3 1 2 0]"
+    );
+    assert_eq!(
+        after(&some, &["busoff 0", "poll busoff", "poll write"])[1..],
+        [
+            "poll-busoff 0 0 - [7 0 0 0] [1 2 2 0] [4 0 0 0]",
+            // Of the other controller.
+            "poll-write 0 0 - [1 1 1 0]"
+        ]
+    );
     assert_eq!(
         after(&front, &["sent 2", "sent 0", "sent 1", "poll write"]).pop().expect("an answer"),
         "poll-write 0 0 - [1 0 0 0] [1 1 1 0] [1 2 2 0]"
@@ -274,13 +320,23 @@ fn the_bench_is_tight_at_36_records() {
     lines.extend((0..4).map(|controller| format!("set {controller} 1")));
     lines.push("poll mode".to_string());
     lines.extend((0..32).map(|object| format!("write {object} {object} 0 -")));
-    lines.extend((0..4).map(|controller| format!("busoff {controller}")));
-    lines.push("poll busoff".to_string());
-    let answer = play(&lines.join("\n")).pop().expect("an answer");
-    assert_eq!(answer.matches('[').count(), 36);
-    assert_eq!(answer.matches("[7 ").count(), 32);
-    assert!(answer.starts_with("poll-busoff 0 0 - [7 0 0 0] [7 4 4 0]"), "{answer}");
-    assert!(answer.ends_with("[7 31 31 0] [4 3 0 0]"), "{answer}");
+    let off = (0..4).map(|controller| format!("busoff {controller}"));
+    let off: Vec<String> = off.chain(["poll busoff".to_string()]).collect();
+    // However many of the frames had left.
+    for (gone, start, end) in [
+        (0, "[7 0 0 0] [7 4 4 0] [7 8 8 0]", "[7 31 31 0] [4 3 0 0]"),
+        (6, "[1 0 0 0] [1 4 4 0] [7 8 8 0]", "[7 31 31 0] [4 3 0 0]"),
+        (32, "[1 0 0 0] [1 4 4 0] [1 8 8 0]", "[1 31 31 0] [4 3 0 0]"),
+    ] {
+        let sent: Vec<String> = (0..gone).map(|object| format!("sent {object}")).collect();
+        let night = [&lines[..], &sent, &off].concat();
+        let answer = play(&night.join("\n")).pop().expect("an answer");
+        assert_eq!(answer.matches('[').count(), 36);
+        assert_eq!(answer.matches("[1 ").count(), gone);
+        assert_eq!(answer.matches("[7 ").count(), 32 - gone);
+        assert!(answer.starts_with(&format!("poll-busoff 0 0 - {start}")), "{answer}");
+        assert!(answer.ends_with(end), "{answer}");
+    }
 }
 
 #[test]
@@ -424,6 +480,10 @@ fn bytes_and_notices_belong_to_the_member() {
     assert_eq!(
         after(&front, &["write 0 2 0 -", "write 1 3 0 -", "busoff 1", "poll busoff"])[3],
         "poll-busoff 0 0 - [7 0 1 0] [7 2 2 0] [4 1 0 0]"
+    );
+    assert_eq!(
+        after(&front, &["write 0 2 0 -", "write 0 3 0 -", "sent 2", "set 1 2", "poll mode"])[4],
+        "poll-mode 0 0 - [7 0 1 0] [1 2 2 0] [7 4 3 0] [3 1 2 0]"
     );
 }
 

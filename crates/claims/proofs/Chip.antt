@@ -10,12 +10,14 @@ use Rattle.laws.proofs.WriterRule.{read-back-rule, only-bytes-rule, say-rule, c
 use Rattle.laws.proofs.CanWriter.{can-sayable, accepted-rule}
 use Rattle.laws.proofs.NextRule.{asked-rule, none-rule, can-next-rule, unchanged-rule}
 use Rattle.history.specs.Claim.{HistoryRule, ReferenceRule}
-use Rattle.history.specs.PollRule.{PollRule}
+use Rattle.history.specs.Cancellation.{CancellationRule}
+use Rattle.history.specs.PollRule.{PollRule, FirstPollRule}
 use Rattle.history.specs.Demand1.{RefusalRule, ValidRule}
 use Rattle.history.specs.Operators.{OthersRule, ReceivedRule}
 use Rattle.history.specs.Replay.{ReplayRule}
 use Rattle.history.proofs.Proved.{demand-3, reference-rule}
-use Rattle.history.proofs.PollRule.{poll-rule}
+use Rattle.history.proofs.Cancellation.{cancellation-rule}
+use Rattle.history.proofs.PollRule.{poll-rule, first-poll-rule}
 use Rattle.history.proofs.Demand1.{refusal-rule, valid-rule}
 use Rattle.history.proofs.Operators.{others-rule, received-rule}
 use Rattle.history.proofs.Replay.{replay-rule}
@@ -44,6 +46,14 @@ chip-demand-3 = demand-3 chip can-format can-lawful (omega arith)
 -- beside demand 3: waiting requests and marks are those of the reference modes too
 pub chip-reference-rule : ReferenceRule chip can-format
 chip-reference-rule = reference-rule chip can-format can-lawful
+
+-- 02, Q-4, beside demand 3: a frame whose sent event was accepted is never cancelled, and one that is cancelled was never sent
+pub chip-cancellation-rule : CancellationRule chip can-format
+chip-cancellation-rule = cancellation-rule chip can-format can-lawful
+
+-- 02, Q-4, beside demand 2: the first poll that closes an object whose frame was sent confirms it, a stop or bus-off poll too
+pub chip-first-poll-rule : FirstPollRule chip can-format
+chip-first-poll-rule = first-poll-rule chip can-format can-lawful
 
 -- a poll that stops or takes a controller off the bus leaves every object of the other controllers as it was
 pub chip-others-rule : OthersRule chip can-format

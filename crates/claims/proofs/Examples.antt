@@ -21,11 +21,12 @@ use Rattle.rules.specs.Events as events
 use Rattle.rules.specs.Calls.{init, set-controller-mode, write, main-function-write, main-function-read, main-function-mode, main-function-bus-off, tx-complete, bus-off-detected, frame-arrived}
 use Rattle.rules.specs.Can.{Frame, can-format, next-length, lengths-below, object-bytes}
 use Rattle.rules.specs.Chip.{chip}
-use Rattle.history.specs.Call.{Call, Init, SetControllerMode, Write, MainFunctionRead, MainFunctionMode, MainFunctionBusOff, BusOffDetected, FrameArrived, performed}
-use Rattle.history.specs.Trace.{trace, left-by}
+use Rattle.history.specs.Call.{Call, Init, SetControllerMode, Write, MainFunctionWrite, MainFunctionRead, MainFunctionMode, MainFunctionBusOff, BusOffDetected, FrameArrived, performed}
+use Rattle.history.specs.Trace.{trace, left-by, is-accepted}
 use Rattle.history.specs.Account.{force-by}
 use Rattle.history.specs.Reference.{reference-by}
-use Rattle.history.specs.PollRule.{SentThenPolled}
+use Rattle.history.specs.Effect.{effect}
+use Rattle.history.specs.PollRule.{StillSent, entry-at-poll, polled, closes-sent}
 
 abbrev pub sheet : List ℕ
 sheet = replicate (sheet-size chip) 0
@@ -70,9 +71,22 @@ between =
     ∷ []
 
 -- PollRule: object 0 is sent, all this comes between, and then the write poll
-pub sent-then-polled : SentThenPolled chip can-format 0 before between ram sheet
+pub sent-then-polled : StillSent chip can-format 0 before between ram × (is-accepted (polled chip can-format 0 before between ram (MainFunctionWrite sheet)) ≡ true)
 unfolding rising all-below list-below lowest-or better best-below big-endian number splice same-bytes first-reason return-code configuration-of accepted-bytes core-valid valid judged state-gate sheet-gate full-gate init set-controller-mode write main-function-write main-function-read main-function-mode main-function-bus-off tx-complete bus-off-detected frame-arrived services.set-controller-mode polls.main-function-write polls.main-function-read polls.main-function-mode polls.main-function-bus-off visit-all turn-all events.tx-complete events.bus-off-detected events.best-object next-length lengths-below object-bytes performed trace left-by force-by reference-by
-sent-then-polled = record { sent = refl; none-came = (refl, (refl, (refl, (refl, (refl, (refl, (refl, tt))))))); polled = refl }
+sent-then-polled = (record { sent = refl; none-came = (refl, (refl, (refl, (refl, (refl, (refl, (refl, tt))))))) }, refl)
+
+-- FirstPollRule: object h is sent, and once these calls have come the poll closes it
+abbrev Closes : ℕ → List (Call can-format) → Call can-format → Type 0
+Closes h since poll = StillSent chip can-format h before since ram × (closes-sent chip can-format (entry-at-poll chip can-format h before since ram) (effect can-format poll (polled chip can-format h before since ram poll)) ≡ true)
+
+-- a stop of object 1's controller, and a bus-off of object 2's
+pub sent-then-stopped : Closes 1 (SetControllerMode sheet 1 STOPPED ∷ []) (MainFunctionMode sheet)
+unfolding rising all-below list-below lowest-or better best-below big-endian number splice same-bytes first-reason return-code configuration-of accepted-bytes core-valid valid judged state-gate sheet-gate full-gate init set-controller-mode write main-function-write main-function-read main-function-mode main-function-bus-off tx-complete bus-off-detected frame-arrived services.set-controller-mode polls.main-function-write polls.main-function-read polls.main-function-mode polls.main-function-bus-off visit-all turn-all events.tx-complete events.bus-off-detected events.best-object next-length lengths-below object-bytes performed trace left-by force-by reference-by
+sent-then-stopped = (record { sent = refl; none-came = (refl, (refl, tt)) }, refl)
+
+pub sent-then-off-bus : Closes 2 (BusOffDetected 2 ∷ []) (MainFunctionBusOff sheet)
+unfolding rising all-below list-below lowest-or better best-below big-endian number splice same-bytes first-reason return-code configuration-of accepted-bytes core-valid valid judged state-gate sheet-gate full-gate init set-controller-mode write main-function-write main-function-read main-function-mode main-function-bus-off tx-complete bus-off-detected frame-arrived services.set-controller-mode polls.main-function-write polls.main-function-read polls.main-function-mode polls.main-function-bus-off visit-all turn-all events.tx-complete events.bus-off-detected events.best-object next-length lengths-below object-bytes performed trace left-by force-by reference-by
+sent-then-off-bus = (record { sent = refl; none-came = (refl, (refl, tt)) }, refl)
 
 -- ValidRule and ReceivedRule: a sound state in which object 3 is full
 abbrev pub full-state : State can-format

@@ -9,11 +9,11 @@ use lib.ListN.{length, set, length-append}
 use Rattle.rules.specs.Repeat.{rising}
 use Rattle.rules.specs.Notification.{Notification, all-words}
 use Rattle.rules.specs.Core.{Controller, Owner, Mailbox, Core, controller-at, mailbox-at}
-use Rattle.rules.specs.Polls.{Boxes, Sweep, Visit, Turn, notify, visit-one, visit-all, cancellation, turn-one, turn-all, sweep-of}
+use Rattle.rules.specs.Polls.{Boxes, Sweep, Visit, Turn, notify, visit-one, visit-all, closing, turn-one, turn-all, sweep-of}
 use Rattle.laws.proofs.Tests.{cond-both}
 use Rattle.laws.proofs.Splices.{splice-then}
 use Rattle.laws.proofs.Sheets.{length-all-words, all-words-append}
-use Rattle.laws.proofs.Bounds.{busy-count, mailbox-busy, cancellation-frees, count-limit, load, sweep-load}
+use Rattle.laws.proofs.Bounds.{busy-count, mailbox-busy, closing-frees, count-limit, load, sweep-load}
 use Rattle.core_layout.specs.Sheet.{words-each}
 use Rattle.core_places.specs.Arrays.{controllers-in, mailboxes-in}
 use Rattle.core_sweeps.specs.Swept.{Swept, Owned, boxes-from}
@@ -24,7 +24,7 @@ use Rattle.core_sweeps.proofs.Visits.{swept-none, swept-room, owned-by, owned-i
 pub closed-room : (leaves : Bool) (size : ℕ) (owners : List Owner) (count : ℕ) (ram : List ℕ) (c : ℕ) (start : List Mailbox) {from told : ℕ} {ms : List Mailbox} {before sheet : List ℕ}
     → Swept (closed-if leaves size owners count ram c (boxes-from start)) from before sheet ms told → told ≤ from + busy-count count start
 closed-room true size owners count ram c start s =
-    let same = swept-room (cancellation size owners ram c) (cancellation-frees size owners ram c) count count (omega arith) start s in omega arith
+    let same = swept-room (closing size owners ram c) (closing-frees size owners ram c) count count (omega arith) start s in omega arith
 closed-room false size owners count ram c start s = let told = s .told-is in omega arith
 
 -- one controller's turn, by what the test showed
@@ -55,8 +55,8 @@ visits-behind v (suc n) ns b = rw (visits-behind v n ns b) (visit-behind v n ns 
 told-behind : (t : Turn) (size : ℕ) (owners : List Owner) (count : ℕ) (ram : List ℕ) (c : ℕ) (k : Controller) (ns : List Notification) (b : Boxes)
     → turn-told t size owners count ram c k (behind ns b) ≡ behind ns (turn-told t size owners count ram c k b)
 told-behind t size owners count ram c k ns b =
-    ap (λ (x : Boxes). notify (t .note c k) (cond (t .leaves k) x (behind ns b))) (visits-behind (cancellation size owners ram c) count ns b)
-    ∙ ap (notify (t .note c k)) (behind-cond ns (t .leaves k) (visit-all (cancellation size owners ram c) count b) b)
+    ap (λ (x : Boxes). notify (t .note c k) (cond (t .leaves k) x (behind ns b))) (visits-behind (closing size owners ram c) count ns b)
+    ∙ ap (notify (t .note c k)) (behind-cond ns (t .leaves k) (visit-all (closing size owners ram c) count b) b)
     ∙ rw (append-assoc ns)
 
 -- what comes after told notifications is written right behind them

@@ -5,7 +5,7 @@ use mathlib.Core.Bool.{Bool, cond}
 use mathlib.Core.List.{List}
 use lib.ListN.{length, set}
 use Rattle.rules.specs.Core.{Controller, Owner, Mailbox, Core, controller-at}
-use Rattle.rules.specs.Polls.{Boxes, Sweep, Turn, notify, visit-all, cancellation}
+use Rattle.rules.specs.Polls.{Boxes, Sweep, Turn, notify, visit-all, closing}
 use Rattle.core_layout.specs.Sheet.{words-each}
 use Rattle.core_sweeps.specs.Swept.{Swept, Owned, Lent, boxes-from}
 
@@ -19,7 +19,7 @@ pub record Holds (core : Core) (controller-count object-count : ℕ) (owners : L
 
 -- what is told in controller c's turn: its objects are closed if it leaves the bus, then it is told of
 abbrev pub closed-if : Bool → ℕ → List Owner → ℕ → List ℕ → ℕ → Boxes → Boxes
-closed-if leaves size owners count ram c b = cond leaves (visit-all (cancellation size owners ram c) count b) b
+closed-if leaves size owners count ram c b = cond leaves (visit-all (closing size owners ram c) count b) b
 
 abbrev pub turn-told : Turn → ℕ → List Owner → ℕ → List ℕ → ℕ → Controller → Boxes → Boxes
 turn-told t size owners count ram c k b = notify (t .note c k) (closed-if (t .leaves k) size owners count ram c b)

@@ -47,7 +47,7 @@ fn close_if(
 {
     if leaves {
         visit_all(
-            Visit::Stopped {
+            Visit::Occupied {
                 controller: controller,
             },
             count,

@@ -12,16 +12,16 @@ use Rattle.rules.specs.Repeat.{rising}
 use Rattle.rules.specs.Bytes.{splice}
 use Rattle.rules.specs.Notification.{Notification, words, all-words}
 use Rattle.rules.specs.Core.{Owner, Mailbox, empty-mailbox, owner-at, mailbox-at}
-use Rattle.rules.specs.Polls.{Boxes, Visit, notify, visit-one, visit-all, confirmation, indication, cancellation}
+use Rattle.rules.specs.Polls.{Boxes, Visit, notify, visit-one, visit-all, confirmation, indication, closing}
 use Rattle.laws.proofs.Tests.{cond-both, decide}
 use Rattle.laws.proofs.Splices.{splice-nil, splice-then, length-splice}
 use Rattle.laws.proofs.Sheets.{length-words, length-all-words, all-words-one, all-words-append}
-use Rattle.laws.proofs.Bounds.{mailbox-busy, busy-count, busy-freed, Frees, confirmation-frees, indication-frees, cancellation-frees, load, visits-load, length-snoc}
+use Rattle.laws.proofs.Bounds.{mailbox-busy, busy-count, busy-freed, Frees, confirmation-frees, indication-frees, closing-frees, load, visits-load, length-snoc}
 use Rattle.core_layout.specs.Head.{length-bytes}
 use Rattle.core_layout.specs.Sheet.{words-each}
 use Rattle.core_places.specs.Arrays.{mailboxes-in}
 use Rattle.core_sweeps.specs.declared.visit.Visit as declared
-use Rattle.core_sweeps.specs.declared.visit.Visit.the-variants.{Sent, Received, Stopped}
+use Rattle.core_sweeps.specs.declared.visit.Visit.the-variants.{Sent, Received, Occupied}
 use Rattle.core_sweeps.specs.Visits.{visit-of}
 use Rattle.core_sweeps.specs.Swept.{Told, Freed, Visited, Swept, Owned, boxes-from}
 
@@ -29,13 +29,13 @@ use Rattle.core_sweeps.specs.Swept.{Told, Freed, Visited, Swept, Owned, 
 pub visit-frees : (visit : declared.Visit) (size : ℕ) (two : Bool) (owners : List Owner) (ram : List ℕ) → Frees (visit-of visit size two owners ram)
 visit-frees Sent size two owners ram = confirmation-frees size ram
 visit-frees Received size two owners ram = indication-frees size (length-bytes two) ram
-visit-frees (Stopped c) size two owners ram = cancellation-frees size owners ram c
+visit-frees (Occupied c) size two owners ram = closing-frees size owners ram c
 
 module _ {told : ℕ} {before : List ℕ} where
-  pub visited-freed : (visit : List Owner → List ℕ → Visit) (owners : List Owner) (ram : List ℕ) (h : ℕ) (ms : List Mailbox) {next : List Mailbox} {after : List ℕ} {count : ℕ}
-      → Freed visit ram h ms next told before after count → visit owners ram .due h (mailbox-at ms h) ≡ true → Visited (visit owners ram) h ms next told before after count
-  visited-freed visit owners ram h ms f due =
-      let t = f .told-of owners (mailbox-at ms h) in
+  pub visited-freed : (v : Visit) (h : ℕ) (ms : List Mailbox) {n : Notification} {next : List Mailbox} {after : List ℕ} {count : ℕ}
+      → Freed n h ms next told before after count → n ≡ v .note h (mailbox-at ms h) → v .due h (mailbox-at ms h) ≡ true → Visited v h ms next told before after count
+  visited-freed v h ms f e due =
+      let t = rw e at (f .told-of) in
       record { mailboxes-are = rw due (f .mailboxes-are); count-is = rw due (t .count-is); sheet-is = rw due (t .sheet-is) }
 
   pub visited-not : (v : Visit) (h : ℕ) (ms : List Mailbox) → v .due h (mailbox-at ms h) ≡ false → Visited v h ms ms told before before told

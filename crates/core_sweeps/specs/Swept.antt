@@ -17,10 +17,10 @@ pub record Told (n : Notification) (told : ℕ) (before after : List ℕ) (count
   pub count-is : count ≡ told + 1
   pub sheet-is : after ≡ splice (words-each * told) (words n) before
 
--- Object h is free again, and a visit's notification tells of it, whatever the owners and its mailbox.
-pub record Freed (visit : List Owner → List ℕ → Visit) (ram : List ℕ) (h : ℕ) (ms next : List Mailbox) (told : ℕ) (before after : List ℕ) (count : ℕ) : Type 0 where
+-- object h is free again, and n tells of it
+pub record Freed (n : Notification) (h : ℕ) (ms next : List Mailbox) (told : ℕ) (before after : List ℕ) (count : ℕ) : Type 0 where
   pub mailboxes-are : next ≡ set ms h empty-mailbox
-  pub told-of : (owners : List Owner) (m : Mailbox) → Told (visit owners ram .note h m) told before after count
+  pub told-of : Told n told before after count
 
 -- Object h is visited: where it is due it is told of and free, else all stays as it was.
 pub record Visited (v : Visit) (h : ℕ) (ms next : List Mailbox) (told : ℕ) (before after : List ℕ) (count : ℕ) : Type 0 where

@@ -6,10 +6,10 @@ use Rattle.rules.specs.Core.{Owner}
 use Rattle.rules.specs.Polls as rules
 use Rattle.core_layout.specs.Head.{length-bytes}
 use Rattle.core_sweeps.specs.declared.visit.Visit.{Visit}
-use Rattle.core_sweeps.specs.declared.visit.Visit.the-variants.{Sent, Received, Stopped}
+use Rattle.core_sweeps.specs.declared.visit.Visit.the-variants.{Sent, Received, Occupied}
 
--- "confirmed", "indicated", "cancelled": the size of an object, whether its length has two bytes, the owners and the memory
+-- "confirmed", "indicated", or the closing notice at a stop or bus-off: the size of an object, whether its length has two bytes, the owners and the memory
 abbrev pub visit-of : Visit → ℕ → Bool → List Owner → List ℕ → rules.Visit
 visit-of Sent size two owners ram = rules.confirmation size ram
 visit-of Received size two owners ram = rules.indication size (length-bytes two) ram
-visit-of (Stopped c) size two owners ram = rules.cancellation size owners ram c
+visit-of (Occupied c) size two owners ram = rules.closing size owners ram c

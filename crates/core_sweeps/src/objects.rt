@@ -29,29 +29,24 @@ pub fn tell(n: Notification, told: usize, sheet: &mut [u32]) -> usize
     told + 1
 }
 
-// An object that is due is told of and free again.
+// An object is free again, and the notification tells of it.
 fn free_object(
-    visit: Visit,
+    n: Notification,
     object: usize,
     pendings: &mut [bool],
     dones: &mut [bool],
     fulls: &mut [bool],
     told: usize,
-    size: usize,
-    two_bytes: bool,
-    ram: &[u8],
     sheet: &mut [u32],
 ) -> usize
     requires { ⌜ (object < length (now pendings)) × Alike (now pendings) (now dones) (now fulls) ⌝ }
-    requires { ⌜ (object < 2 ^ 32) × (head-size ≤ size) × (size * object + size ≤ length (now ram)) ⌝ }
     requires { ⌜ words-each * told + words-each ≤ length (now sheet) ⌝ }
-    ensures { λ r. ⌜ Freed (visit-of visit size «two_bytes») (now (ram .entry)) object
+    ensures { λ r. ⌜ Freed (view n) object
         (mailboxes-in (now (pendings .entry)) (now (dones .entry)) (now (fulls .entry)))
         (mailboxes-in (now (pendings .exit)) (now (dones .exit)) (now (fulls .exit)))
         told (now (sheet .entry)) (now (sheet .exit)) r ⌝ }
 {
     free_mailbox(pendings, dones, fulls, object);
-    let n = visit_note(visit, object, size, two_bytes, ram);
     tell(n, told, sheet)
 }
 
@@ -80,18 +75,8 @@ fn visit_one(
 {
     let m = read_mailbox(pendings, dones, fulls, object);
     if visit_due(visit, owner, m) {
-        free_object(
-            visit,
-            object,
-            pendings,
-            dones,
-            fulls,
-            told,
-            size,
-            two_bytes,
-            ram,
-            sheet,
-        )
+        let n = visit_note(visit, m, object, size, two_bytes, ram);
+        free_object(n, object, pendings, dones, fulls, told, sheet)
     } else {
         told
     }

@@ -1,32 +1,57 @@
 -- Which notifications close an object. One that does not leaves the object's account as it was.
 use Prim.Native.Nat.{ℕ}
 use mathlib.Core.Path.{_≡_, refl, ap, _∙_}
-use mathlib.Core.Bool.{false}
+use mathlib.Core.Bool.{Bool, false}
 use mathlib.Core.List.{List, [], _∷_, _++_}
 use mathlib.Core.Option.{Option, none, some}
+use lib.Dec.{eqb}
 use Rattle.rules.specs.Reason.{is-development-error}
 use Rattle.rules.specs.Notification.{Notification, tx-confirmation, rx-indication, mode-indication, bus-off-indication, development-error, data-lost, tx-cancellation}
+use Rattle.rules.specs.Core.{Mailbox}
+use Rattle.rules.specs.Polls.{closing-notification}
 use Rattle.history.specs.Account.{Account, after-notification, after-notifications}
 use Rattle.history.specs.Demand1.{error-record}
-use Rattle.history.specs.Operators.{closes, closed-in}
+use Rattle.history.specs.Notices.{one-of, closes, cancels, closed-in, cancelled-in}
 use Rattle.laws.proofs.Tests.{cond-both, neither}
 
 -- a refusal closes no object
 pub quiet-error : (h : ℕ) (service : Option ℕ) (r : ℕ) → closed-in h (error-record service r) ≡ false
-unfolding closed-in
+unfolding one-of
 quiet-error h none r = refl
 quiet-error h (some service) r =
     cond-both (λ (ns : List Notification). closed-in h ns ≡ false) (is-development-error r) (development-error service r ∷ []) [] (λ t. refl) (λ t. refl)
 
--- one notification more, which does not close the object
-pub still-open : (h : ℕ) (ns : List Notification) (n : Notification) → closed-in h ns ≡ false → closes h n ≡ false → closed-in h (ns ++ (n ∷ [])) ≡ false
-unfolding closed-in
-still-open h [] n e f = rw f
-still-open h (m ∷ ns) n e f =
-    let none-closed = neither (closes h m) (closed-in h ns) e in
-    rw (none-closed .0) (still-open h ns n (none-closed .1) f)
+-- one notification more, which is not such either
+pub still-none : (such : Notification → Bool) (ns : List Notification) (n : Notification) → one-of such ns ≡ false → such n ≡ false → one-of such (ns ++ (n ∷ [])) ≡ false
+unfolding one-of
+still-none such [] n e f = rw f
+still-none such (m ∷ ns) n e f =
+    let none = neither (such m) (one-of such ns) e in
+    rw (none .0) (still-none such ns n (none .1) f)
 
-unclosed-one : (h : ℕ) (n : Notification) (x : Account) → closes h n ≡ false → after-notification h x n ≡ x
+-- a closing notice closes the object that it names
+pub closes-named : (h i handle : ℕ) (m : Mailbox) → closes h (closing-notification m i handle) ≡ eqb i h
+closes-named h i handle m =
+    cond-both (λ (n : Notification). closes h n ≡ eqb i h) (m .tx-done) (tx-confirmation i handle) (tx-cancellation i handle) (λ t. refl) (λ t. refl)
+
+-- what does not close an object does not cancel it
+not-cancelling : (h : ℕ) (n : Notification) → closes h n ≡ false → cancels h n ≡ false
+not-cancelling h (tx-confirmation i handle) e = refl
+not-cancelling h (tx-cancellation i handle) e = e
+not-cancelling h (rx-indication i identifier len) e = refl
+not-cancelling h (mode-indication c m) e = refl
+not-cancelling h (bus-off-indication c) e = refl
+not-cancelling h (development-error service error) e = refl
+not-cancelling h (data-lost i) e = refl
+
+pub none-cancelling : (h : ℕ) (ns : List Notification) → closed-in h ns ≡ false → cancelled-in h ns ≡ false
+unfolding one-of
+none-cancelling h [] e = refl
+none-cancelling h (n ∷ ns) e =
+    let none = neither (closes h n) (closed-in h ns) e in
+    rw (not-cancelling h n (none .0)) (none-cancelling h ns (none .1))
+
+pub unclosed-one : (h : ℕ) (n : Notification) (x : Account) → closes h n ≡ false → after-notification h x n ≡ x
 unclosed-one h (tx-confirmation i handle) x e = rw e
 unclosed-one h (tx-cancellation i handle) x e = rw e
 unclosed-one h (rx-indication i identifier len) x e = refl
@@ -36,7 +61,7 @@ unclosed-one h (development-error service error) x e = refl
 unclosed-one h (data-lost i) x e = refl
 
 pub unclosed : (h : ℕ) (ns : List Notification) (x : Account) → closed-in h ns ≡ false → after-notifications h x ns ≡ x
-unfolding closed-in after-notifications
+unfolding one-of after-notifications
 unclosed h [] x e = refl
 unclosed h (n ∷ ns) x e =
     let none-closed = neither (closes h n) (closed-in h ns) e in

@@ -18,23 +18,23 @@ use Rattle.rules.specs.Head.{handle-in}
 use Rattle.rules.specs.Repeat.{all-below}
 use Rattle.rules.specs.Bytes.{splice}
 use Rattle.rules.specs.Reason.{first-reason, _then_, reasons-named}
-use Rattle.rules.specs.Notification.{data-lost}
+use Rattle.rules.specs.Notification.{Notification, tx-confirmation, data-lost, tx-cancellation}
 use Rattle.rules.specs.Core.{Controller, Owner, Mailbox, Core, empty-mailbox, controller-at, owner-at, mailbox-at, mailbox-valid, mailbox-empty, is-started, is-sending, controller-of, with-mailboxes, free-member}
 use Rattle.rules.specs.Configuration.{Configuration, no-configuration}
 use Rattle.rules.specs.State.{State, with-core, valid, initial-state}
 use Rattle.rules.specs.Outcome.{Outcome, Answer, taken-by, stored-in, unwanted, lost, accepted, full-gate, state-gate}
 use Rattle.rules.specs.Services.{deinit-checks, some-started, write-reason, written-mailbox}
-use Rattle.rules.specs.Polls.{Boxes, Visit, Turn, object-in, notify, visit-all, turn-all, boxes-of, confirmation, indication, cancellation, mode-change, going-off}
+use Rattle.rules.specs.Polls.{Boxes, Visit, Turn, closing-notification, object-in, notify, visit-all, turn-all, boxes-of, confirmation, indication, closing, mode-change, going-off}
 use Rattle.rules.specs.Events as events
 use Rattle.rules.specs.Events.{tx-complete-checks, on-bus-checks, sent-mailbox, filled-mailbox, has-unsent, fits-frame}
 use Rattle.rules.specs.Calls.{init-checks, settings-of-object, frame-reason, best-object, stored}
 use Rattle.history.specs.Call.{Call, Init, DeInit, SetControllerMode, GetControllerMode, Write, MainFunctionWrite, MainFunctionRead, MainFunctionMode, MainFunctionBusOff, TxComplete, BusOffDetected, FrameArrived, performed}
 use Rattle.history.specs.Trace.{trace}
 use Rattle.history.specs.Effect.{Effect, nothing, configuring, configured, unconfigured, at-object, written, completed, at-controller, mode-asked, mode-told, bus-off, polling, of-writes, of-modes, of-buses-off, accepted-effect, effect}
-use Rattle.history.specs.Account.{Account, closed, held, broken, after-sent, after-confirmation, after-cancellation, after-notification, after-notifications, in-force, after-effect, compared, account-after, account, intact}
+use Rattle.history.specs.Account.{Account, closed, held, broken, after-sent, after-notification, after-notifications, in-force, after-effect, compared, account-after, account, intact}
 use Rattle.history.specs.Demand1.{service-number}
-use Rattle.history.specs.Operators.{closes}
-use Rattle.laws.proofs.Tests.{left, right, clash, decide, neither, not-true, not-false}
+use Rattle.history.specs.Notices.{closes}
+use Rattle.laws.proofs.Tests.{cond-both, left, right, clash, decide, neither, not-true, not-false}
 use Rattle.laws.proofs.Repeat.{all-facts, replicate-default}
 use Rattle.laws.proofs.Reasons.{then-first, then-second, check-passed}
 use Rattle.laws.proofs.Pools.{named, taken-member, member-settings}
@@ -46,7 +46,7 @@ use Rattle.laws.proofs.Acceptance.{WritePassed, gate-passed, write-passed}
 use Rattle.laws.proofs.Choice.{choice-tells}
 use Rattle.laws.proofs.StaysValid.{initial-valid, own-mailbox, pending-facts}
 use Rattle.history.proofs.Judged.{judgement, denied, core-done, visits-done, turns-done, received-cases, performed-cases}
-use Rattle.history.proofs.Notices.{quiet-error, unclosed, after-more, after-unclosed}
+use Rattle.history.proofs.Notices.{quiet-error, closes-named, unclosed, after-more, after-unclosed}
 use Rattle.history.proofs.Sweeps.{freed, visits-keep, turns-keep}
 use Rattle.history.proofs.Steps.{performed-valid}
 
@@ -105,21 +105,29 @@ module _ (L : Limits) (core : Core) (v : Valid L core) where
       let within = objects-within L core v in
       ltb-true (owner-at (core .owners) h .controller) (core .controller-count) (rw (lt-ltb h (core .object-count) l) at (owners-placed L core v h (omega arith)))
 
-  -- where no controller is STARTED nothing is pending
-  none-started-pending : (h : ℕ) → (not (core .initialised) || some-started core) ≡ false → mailbox-at (core .mailboxes) h .tx-pending ≡ false
-  none-started-pending h t = go (decLt h (core .object-count)) (decide (mailbox-at (core .mailboxes) h .tx-pending))
+  -- an object whose controller is not STARTED has no pending frame
+  pub stopped-free : (h : ℕ) → is-started (controller-of core h) ≡ false → mailbox-at (core .mailboxes) h .tx-pending ≡ false
+  stopped-free h stopped = go (decLt h (core .object-count)) (decide (mailbox-at (core .mailboxes) h .tx-pending))
     where
-      stopped : ℕ → Bool
-      stopped c = not (is-started (controller-at (core .controllers) c))
-
       go : Dec (h < core .object-count) → (mailbox-at (core .mailboxes) h .tx-pending ≡ true) ⊎ (mailbox-at (core .mailboxes) h .tx-pending ≡ false) → mailbox-at (core .mailboxes) h .tx-pending ≡ false
       go (no l) q = ap (λ (m : Mailbox). m .tx-pending) (unused-empty h (omega arith))
       go (yes l) (inr e) = e
       go (yes l) (inl e) =
           let o = owner-at (core .owners) h in
-          let started = right (not (o .receiving)) (is-started (controller-of core h)) (pending-facts (o .receiving) (is-started (controller-of core h)) (mailbox-at (core .mailboxes) h) (own-mailbox L core v h l) e) in
+          clash (right (not (o .receiving)) (is-started (controller-of core h)) (pending-facts (o .receiving) (is-started (controller-of core h)) (mailbox-at (core .mailboxes) h) (own-mailbox L core v h l) e)) stopped
+
+  -- where no controller is STARTED nothing is pending
+  none-started-pending : (h : ℕ) → (not (core .initialised) || some-started core) ≡ false → mailbox-at (core .mailboxes) h .tx-pending ≡ false
+  none-started-pending h t = go (decLt h (core .object-count))
+    where
+      stopped : ℕ → Bool
+      stopped c = not (is-started (controller-at (core .controllers) c))
+
+      go : Dec (h < core .object-count) → mailbox-at (core .mailboxes) h .tx-pending ≡ false
+      go (no l) = ap (λ (m : Mailbox). m .tx-pending) (unused-empty h (omega arith))
+      go (yes l) =
           let all-stopped = not-false (all-below (core .controller-count) stopped) (neither (not (core .initialised)) (some-started core) t .1) in
-          clash started (not-true (is-started (controller-of core h)) (all-facts (core .controller-count) stopped all-stopped (o .controller) (own-controller-in-use h l)))
+          stopped-free h (not-true (is-started (controller-of core h)) (all-facts (core .controller-count) stopped all-stopped (owner-at (core .owners) h .controller) (own-controller-in-use h l)))
 
   -- a place in use lies among the mailboxes
   inside : (i : ℕ) → i < core .object-count → i < length (core .mailboxes)
@@ -142,21 +150,15 @@ not-held m bytes closed p e = refl
 not-held m bytes (held k b sent) p e = clash (p .0) e
 not-held m bytes broken p e = absurd p
 
--- the closing notice of a pending object carries its handle; a confirmation needs the frame to be sent
-own-confirmation : (m : Mailbox) (bytes : List ℕ) (a : Account) → Matches m bytes a → m .tx-pending ≡ true → m .tx-done ≡ true → after-confirmation (handle-in bytes) a ≡ closed
-own-confirmation m bytes closed p pending done = clash pending p
-own-confirmation m bytes (held k b sent) p pending done =
-    let was-sent : sent ≡ true = sym (p .1) ∙ done in
+-- the closing notice of a pending object carries its handle, and a confirmation comes where the frame was sent
+own-closing : (h : ℕ) (m : Mailbox) (bytes : List ℕ) (a : Account) → Matches m bytes a → m .tx-pending ≡ true → after-notification h a (closing-notification m h (handle-in bytes)) ≡ closed
+own-closing h m bytes closed p pending = clash pending p
+own-closing h m bytes (held k b sent) p pending =
     let own-handle : handle-in bytes ≡ k = ap handle-in (p .2) ∙ p .3 in
-    rw (was-sent, own-handle, eq-eqb k k refl)
-own-confirmation m bytes broken p pending done = absurd p
-
-own-cancellation : (m : Mailbox) (bytes : List ℕ) (a : Account) → Matches m bytes a → m .tx-pending ≡ true → after-cancellation (handle-in bytes) a ≡ closed
-own-cancellation m bytes closed p pending = clash pending p
-own-cancellation m bytes (held k b sent) p pending =
-    let own-handle : handle-in bytes ≡ k = ap handle-in (p .2) ∙ p .3 in
-    rw (own-handle, eq-eqb k k refl)
-own-cancellation m bytes broken p pending = absurd p
+    cond-both (λ (n : Notification). after-notification h (held k b sent) n ≡ closed) (m .tx-done) (tx-confirmation h (handle-in bytes)) (tx-cancellation h (handle-in bytes))
+    (λ done. let was-sent : sent ≡ true = sym (p .1) ∙ done in rw (eq-eqb h h refl, was-sent, own-handle, eq-eqb k k refl))
+    (λ waits. rw (eq-eqb h h refl, own-handle, eq-eqb k k refl))
+own-closing h m bytes broken p pending = absurd p
 
 -- The sweeps of the polls, for objects of so many bytes
 
@@ -169,19 +171,19 @@ module _ (size h : ℕ) (ram : List ℕ) where
   confirmation-suits : Suits (confirmation size ram)
   confirmation-suits =
       record {
-        own = λ m a p flags done. rw (eq-eqb h h refl) (own-confirmation m (object-in size ram h) a p (flags .done-pending done) done);
-        other = λ i m d. ne-eqb i h d;
+        own = λ m a p flags done. own-closing h m (object-in size ram h) a p (flags .done-pending done);
+        other = λ i m d. closes-named h i _ m ∙ ne-eqb i h d;
       }
 
   indication-suits : (length-size : ℕ) → Suits (indication size length-size ram)
   indication-suits length-size =
       record { own = λ m a p flags full. not-held m (object-in size ram h) a p (flags .full-free full); other = λ i m d. refl }
 
-  cancellation-suits : (owners : List Owner) (c : ℕ) → Suits (cancellation size owners ram c)
-  cancellation-suits owners c =
+  closing-suits : (owners : List Owner) (c : ℕ) → Suits (closing size owners ram c)
+  closing-suits owners c =
       record {
-        own = λ m a p flags t. rw (eq-eqb h h refl) (own-cancellation m (object-in size ram h) a p (right (eqb (owner-at owners h .controller) c) (m .tx-pending) t));
-        other = λ i m d. ne-eqb i h d;
+        own = λ m a p flags t. own-closing h m (object-in size ram h) a p (right (eqb (owner-at owners h .controller) c) (m .tx-pending) t);
+        other = λ i m d. closes-named h i _ m ∙ ne-eqb i h d;
       }
 
   -- a sweep on its way: the account, fed the notifications so far, agrees with the mailbox
@@ -216,7 +218,7 @@ module _ (size h : ℕ) (ram : List ℕ) where
     turns-on-way t core quiet =
         turns-keep size t core ram OnWay
         (λ c k b q. on-way (notify (t .note c k) b) (mailbox-at (b .mailboxes) h) (after-notifications h a (b .notifications)) refl (after-unclosed h a (b .notifications) (t .note c k) (quiet c k)) (q .agrees) (q .flags))
-        (λ c due leaves. visits-on-way (cancellation size (core .owners) ram c) (cancellation-suits (core .owners) c) (core .object-count))
+        (λ c due leaves. visits-on-way (closing size (core .owners) ram c) (closing-suits (core .owners) c) (core .object-count))
 
 module _ (L : Limits) (F : Format) (h : ℕ) where
   -- the configuration that a state has

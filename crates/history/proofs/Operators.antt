@@ -1,6 +1,6 @@
 -- What operators ask of the polls, proved.
 use Prim.Native.Nat.{ℕ}
-use mathlib.Core.Path.{_≡_, refl}
+use mathlib.Core.Path.{_≡_, refl, _∙_}
 use mathlib.Core.Bool.{true}
 use mathlib.Core.List.{List}
 use lib.Dec.{eqb}
@@ -13,10 +13,12 @@ use Rattle.rules.specs.Outcome.{Outcome, lifted, full-gate}
 use Rattle.rules.specs.Polls as polls
 use Rattle.rules.specs.Polls.{Boxes, boxes-of, confirmation, mode-change, going-off, polled}
 use Rattle.rules.specs.Calls.{main-function-write, main-function-mode, main-function-bus-off}
-use Rattle.history.specs.Operators.{closed-in, ObjectKept, OthersKept, FrameSurvives, OthersRule, ReceivedRule}
+use Rattle.history.specs.Operators.{ObjectKept, OthersKept, FrameSurvives, OthersRule, ReceivedRule}
+use Rattle.history.specs.Notices.{one-of}
 use Rattle.laws.proofs.Tests.{right, both, clash}
 use Rattle.laws.proofs.Reasons.{judged-either}
 use Rattle.laws.proofs.Validity.{core-facts, state-core}
+use Rattle.history.proofs.Notices.{closes-named}
 use Rattle.history.proofs.Objects.{mailbox-flags}
 use Rattle.history.proofs.Untouched.{Untouched, at-first, visits-untouched, turns-untouched}
 use Rattle.history.proofs.Quiet.{staying-untouched}
@@ -25,7 +27,7 @@ module _ (L : Limits) (F : Format) (s : State F) (sheet : ℕ) (ram : List ℕ) 
   -- a poll whose sweep leaves the object untouched keeps it, refused or not
   poll-keeps : (next : Core) (b : Boxes) → next .mailboxes ≡ b .mailboxes → Untouched h (mailbox-at (s .core .mailboxes) h) b
       → ObjectKept L F s sheet ram h (lifted s (polled (full-gate L F s sheet ram) (s .core) ram next (b .notifications)))
-  unfolding closed-in
+  unfolding one-of
   poll-keeps next b e u =
       judged-either (λ (o : Outcome Core). ObjectKept L F s sheet ram h (lifted s o)) _ _ _
       (record { mailbox = refl; bytes = refl; not-closed = refl })
@@ -48,7 +50,7 @@ module _ (L : Limits) (F : Format) (s : State F) (sheet : ℕ) (ram : List ℕ) 
       let free = flags .full-free full in
       let begin = at-first (s .core) h in
       record {
-        write-poll = poll-keeps _ _ refl (visits-untouched h m (confirmation (L .object-size) ram) (λ done. clash (flags .done-pending done) free) (λ i x d. ne-eqb i h d) (s .core .object-count) (boxes-of (s .core)) begin);
+        write-poll = poll-keeps _ _ refl (visits-untouched h m (confirmation (L .object-size) ram) (λ done. clash (flags .done-pending done) free) (λ i x d. closes-named h i _ x ∙ ne-eqb i h d) (s .core .object-count) (boxes-of (s .core)) begin);
         mode-poll = poll-keeps _ _ refl (turns-untouched h m (L .object-size) mode-change (s .core) ram (λ k x. refl) (λ c due leaves e. clash (right (eqb (owner-at (s .core .owners) h .controller) c) (m .tx-pending) e) free) begin);
         bus-off-poll = poll-keeps _ _ refl (turns-untouched h m (L .object-size) going-off (s .core) ram (λ k x. refl) (λ c due leaves e. clash (right (eqb (owner-at (s .core .owners) h .controller) c) (m .tx-pending) e) free) begin);
       }

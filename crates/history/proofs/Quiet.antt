@@ -17,10 +17,10 @@ use Rattle.history.specs.Reference.{entry}
 use Rattle.history.specs.Effect.{Effect, accepted-effect, effect}
 use Rattle.history.specs.Demand1.{service-number}
 use Rattle.history.specs.PollRule.{closes-sent}
-use Rattle.history.specs.Operators.{closes, closed-in}
+use Rattle.history.specs.Notices.{one-of, closes, closed-in}
 use Rattle.laws.proofs.Tests.{left, both, clash}
 use Rattle.history.proofs.Judged.{judgement, received-cases, performed-cases}
-use Rattle.history.proofs.Notices.{quiet-error, still-open}
+use Rattle.history.proofs.Notices.{quiet-error, still-none}
 use Rattle.history.proofs.Sweeps.{visits-keep}
 use Rattle.history.proofs.Untouched.{Untouched, at-first, turns-untouched}
 
@@ -40,7 +40,7 @@ module _ (L : Limits) (F : Format) (h : ℕ) (s : State F) (ram : List ℕ) (c :
   Quiet e o = closes-sent L F (entry (controller-at (s .core .controllers) c)) e ≡ false → closed-in h (o .notifications) ≡ false
 
   done-quiet : (call : Call F) → Quiet (accepted-effect F call (judgement L F call s ram .done .answer)) (judgement L F call s ram .done)
-  unfolding closed-in
+  unfolding one-of
   done-quiet (Init sheet bytes) n = refl
   done-quiet (DeInit sheet) n = refl
   done-quiet (SetControllerMode sheet k asked) n = refl
@@ -48,7 +48,7 @@ module _ (L : Limits) (F : Format) (h : ℕ) (s : State F) (ram : List ℕ) (c :
   done-quiet (Write sheet i handle fits frame) n = refl
   done-quiet (MainFunctionWrite sheet) n = clash refl n
   done-quiet (MainFunctionRead sheet) n =
-      visits-keep (λ (b : Boxes). closed-in h (b .notifications) ≡ false) (indication (L .object-size) (L .length-size) ram) (λ i b p t. still-open h (b .notifications) _ p refl) (s .core .object-count) (boxes-of (s .core)) refl
+      visits-keep (λ (b : Boxes). closed-in h (b .notifications) ≡ false) (indication (L .object-size) (L .length-size) ram) (λ i b p t. still-none (closes h) (b .notifications) _ p refl) (s .core .object-count) (boxes-of (s .core)) refl
   done-quiet (MainFunctionMode sheet) n = staying-untouched (L .object-size) mode-change (s .core) ram h (λ k x. refl) c own (λ due leaves. clash (both due leaves) n) .unclosed
   done-quiet (MainFunctionBusOff sheet) n = staying-untouched (L .object-size) going-off (s .core) ram h (λ k x. refl) c own (λ due leaves. clash due n) .unclosed
   done-quiet (TxComplete i) n = refl

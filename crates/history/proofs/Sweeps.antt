@@ -9,7 +9,7 @@ use lib.ListN.{length, set}
 use lib.Seq.{getD-set-same}
 use Rattle.rules.specs.Repeat.{rising}
 use Rattle.rules.specs.Core.{Controller, Core, idle-controller, empty-mailbox, controller-at, mailbox-at}
-use Rattle.rules.specs.Polls.{Boxes, Sweep, Visit, Turn, notify, visit-one, visit-all, cancellation, turn-one, turn-all, boxes-of, sweep-of}
+use Rattle.rules.specs.Polls.{Boxes, Sweep, Visit, Turn, notify, visit-one, visit-all, closing, turn-one, turn-all, boxes-of, sweep-of}
 use Rattle.laws.proofs.Tests.{cond-both, cond-map}
 use Rattle.laws.proofs.Repeat.{rising-keeps}
 use Rattle.laws.proofs.Sweeps.{sweep-above, sweep-below}
@@ -50,7 +50,7 @@ module _ (size : ℕ) (t : Turn) (core : Core) (ram : List ℕ) where
 
   pub turns-keep : (P : Boxes → Type 0) → ((c : ℕ) (k : Controller) (b : Boxes) → P b → P (notify (t .note c k) b))
       → ((c : ℕ) → t .due (controller-at (core .controllers) c) ≡ true → t .leaves (controller-at (core .controllers) c) ≡ true
-      → (b : Boxes) → P b → P (visit-all (cancellation size (core .owners) ram c) (core .object-count) b))
+      → (b : Boxes) → P b → P (visit-all (closing size (core .owners) ram c) (core .object-count) b))
       → P (boxes-of core) → P (turn-all size t core ram .boxes)
   unfolding turn-all rising
   turns-keep P told closes p = go (core .controller-count)
@@ -63,7 +63,7 @@ module _ (size : ℕ) (t : Turn) (core : Core) (ram : List ℕ) where
           let met = turns-above n n (le-refl n) in
           cond-both (λ (x : Sweep). P (x .boxes)) (t .due k) _ w
           (λ due. told n k _
-          (cond-both P (t .leaves k) (visit-all (cancellation size (core .owners) ram n) (core .object-count) (w .boxes)) (w .boxes)
+          (cond-both P (t .leaves k) (visit-all (closing size (core .owners) ram n) (core .object-count) (w .boxes)) (w .boxes)
           (λ leaves. closes n (subst (λ (x : Controller). t .due x ≡ true) met due) (subst (λ (x : Controller). t .leaves x ≡ true) met leaves) (w .boxes) (go n))
           (λ stays. go n)))
           (λ idle. go n)

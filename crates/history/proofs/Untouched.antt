@@ -7,9 +7,9 @@ use lib.Seq.{getD-set-other}
 use lib.Dec.{eqb}
 use borrow.Author.Tests.{ne-eqb}
 use Rattle.rules.specs.Core.{Controller, Mailbox, Core, empty-mailbox, controller-at, owner-at, mailbox-at}
-use Rattle.rules.specs.Polls.{Boxes, Visit, Turn, visit-all, turn-all, boxes-of, cancellation}
-use Rattle.history.specs.Operators.{closes, closed-in}
-use Rattle.history.proofs.Notices.{still-open}
+use Rattle.rules.specs.Polls.{Boxes, Visit, Turn, visit-all, turn-all, boxes-of, closing}
+use Rattle.history.specs.Notices.{one-of, closes, closed-in}
+use Rattle.history.proofs.Notices.{still-none, closes-named}
 use Rattle.history.proofs.Sweeps.{freed, visits-keep, turns-keep}
 
 -- object h still has the mailbox m
@@ -19,7 +19,7 @@ pub record Untouched (h : ℕ) (m : Mailbox) (b : Boxes) : Type 0 where
 
 -- where a sweep begins
 pub at-first : (core : Core) (h : ℕ) → Untouched h (mailbox-at (core .mailboxes) h) (boxes-of core)
-unfolding closed-in
+unfolding one-of
 at-first core h = record { same = refl; unclosed = refl }
 
 module _ (h : ℕ) (m : Mailbox) where
@@ -33,7 +33,7 @@ module _ (h : ℕ) (m : Mailbox) where
           let apart : i ≡ h → ⊥ = λ e. spared (subst (λ (x : Mailbox). v .due h x ≡ true) (u .same) (subst (λ (j : ℕ). v .due j (mailbox-at (b .mailboxes) j) ≡ true) e due)) in
           record {
             same = getD-set-other (b .mailboxes) i h empty-mailbox empty-mailbox (λ e. apart (sym e)) ∙ u .same;
-            unclosed = still-open h (b .notifications) _ (u .unclosed) (others i (mailbox-at (b .mailboxes) i) apart);
+            unclosed = still-none (closes h) (b .notifications) _ (u .unclosed) (others i (mailbox-at (b .mailboxes) i) apart);
           }
 
   -- a sweep over the controllers, if the object is not pending or its controller does not leave the bus
@@ -43,5 +43,5 @@ module _ (h : ℕ) (m : Mailbox) where
       → Untouched h m (boxes-of core) → Untouched h m (turn-all size t core ram .boxes)
   turns-untouched size t core ram quiet spared =
       turns-keep size t core ram (Untouched h m)
-      (λ c k b u. record { same = u .same; unclosed = still-open h (b .notifications) (t .note c k) (u .unclosed) (quiet c k) })
-      (λ c due leaves. visits-untouched (cancellation size (core .owners) ram c) (spared c due leaves) (λ i x d. ne-eqb i h d) (core .object-count))
+      (λ c k b u. record { same = u .same; unclosed = still-none (closes h) (b .notifications) (t .note c k) (u .unclosed) (quiet c k) })
+      (λ c due leaves. visits-untouched (closing size (core .owners) ram c) (spared c due leaves) (λ i x d. closes-named h i _ x ∙ ne-eqb i h d) (core .object-count))

@@ -41,7 +41,7 @@ after-confirmation handle closed = broken
 after-confirmation handle (held k b sent) = cond (sent && eqb handle k) closed broken
 after-confirmation handle broken = broken
 
--- a cancellation closes a write, sent or not
+-- a cancellation closes a write; that its frame was not sent is a claim of its own (Cancellation)
 abbrev pub after-cancellation : ℕ → Account → Account
 after-cancellation handle closed = broken
 after-cancellation handle (held k b sent) = cond (eqb handle k) closed broken

@@ -1,32 +1,17 @@
 -- What operators ask of the polls: whose objects they leave alone.
 use Prim.Native.Nat.{ℕ}
 use mathlib.Core.Path.{_≡_}
-use mathlib.Core.Bool.{Bool, true, false, _||_}
-use mathlib.Core.List.{List, [], _∷_}
-use lib.Dec.{eqb}
+use mathlib.Core.Bool.{true, false}
+use mathlib.Core.List.{List}
 use Rattle.rules.specs.Limits.{Limits}
 use Rattle.rules.specs.Format.{Format}
-use Rattle.rules.specs.Notification.{Notification, tx-confirmation, rx-indication, mode-indication, bus-off-indication, development-error, data-lost, tx-cancellation}
 use Rattle.rules.specs.Core.{mailbox-at, controller-of}
 use Rattle.rules.specs.State.{State, valid}
 use Rattle.rules.specs.Outcome.{Outcome}
 use Rattle.rules.specs.Polls.{object-in}
 use Rattle.rules.specs.Calls.{main-function-write, main-function-mode, main-function-bus-off}
 use Rattle.history.specs.Reference.{entry, stops}
-
--- "A closing notice of an object is a record of kind 1 (a confirmation) or 7 that names it"
-abbrev pub closes : ℕ → Notification → Bool
-closes h (tx-confirmation i handle) = eqb i h
-closes h (tx-cancellation i handle) = eqb i h
-closes h (rx-indication i identifier len) = false
-closes h (mode-indication c m) = false
-closes h (bus-off-indication c) = false
-closes h (development-error service error) = false
-closes h (data-lost i) = false
-
-unfoldable pub closed-in : ℕ → List Notification → Bool
-closed-in h [] = false
-closed-in h (n ∷ ns) = closes h n || closed-in h ns
+use Rattle.history.specs.Notices.{closed-in}
 
 module _ (L : Limits) (F : Format) (s : State F) (sheet : ℕ) (ram : List ℕ) (h : ℕ) where
   -- the call leaves object h as it was: what the state remembers of it, its bytes, and no closing notice names it

@@ -13,7 +13,7 @@ use lib.Dec.{eqb}
 use Rattle.rules.specs.Repeat.{rising}
 use Rattle.rules.specs.Core.{Controller, Owner, Mailbox, Core, empty-mailbox, owner-at, mailbox-at, controller-at}
 use Rattle.rules.specs.Notification.{Notification, mode-indication, bus-off-indication}
-use Rattle.rules.specs.Polls.{Boxes, Sweep, Visit, Turn, notify, visit-one, visit-all, confirmation, indication, cancellation, turn-one, turn-all, sweep-of}
+use Rattle.rules.specs.Polls.{Boxes, Sweep, Visit, Turn, notify, visit-one, visit-all, confirmation, indication, closing, turn-one, turn-all, sweep-of}
 use Rattle.laws.proofs.Tests.{cond-both, left, right, clash}
 use Rattle.laws.proofs.Repeat.{rising-keeps, last-or-below}
 use Rattle.laws.proofs.Sweeps.{set-default}
@@ -87,8 +87,8 @@ confirmation-frees size ram h m e = rw (e, or-true (m .tx-pending))
 pub indication-frees : (size length-size : ℕ) (ram : List ℕ) → Frees (indication size length-size ram)
 indication-frees size length-size ram h m e = rw (e, or-true (m .tx-pending || m .tx-done))
 
-pub cancellation-frees : (size : ℕ) (owners : List Owner) (ram : List ℕ) (c : ℕ) → Frees (cancellation size owners ram c)
-cancellation-frees size owners ram c h m e = rw (right (eqb (owner-at owners h .controller) c) (m .tx-pending) e)
+pub closing-frees : (size : ℕ) (owners : List Owner) (ram : List ℕ) (c : ℕ) → Frees (closing size owners ram c)
+closing-frees size owners ram c h m e = rw (right (eqb (owner-at owners h .controller) c) (m .tx-pending) e)
 
 module _ (count : ℕ) where
   -- notifications so far and mailboxes still busy
@@ -120,12 +120,12 @@ module _ (size : ℕ) (t : Turn) (core : Core) (ram : List ℕ) where
   pub turn-load : (c : ℕ) (w : Sweep) → load-of (turn-one size t core ram c w .boxes) ≤ suc (load-of (w .boxes))
   turn-load c w =
       let k = controller-at (w .controllers) c in
-      let v = cancellation size (core .owners) ram c in
-      let cancelled = visit-all v (core .object-count) (w .boxes) in
-      let closed = cond (t .leaves k) cancelled (w .boxes) in
+      let v = closing size (core .owners) ram c in
+      let visited = visit-all v (core .object-count) (w .boxes) in
+      let closed = cond (t .leaves k) visited (w .boxes) in
       let same : load-of closed ≡ load-of (w .boxes) =
-      cond-both (λ (b : Boxes). load-of b ≡ load-of (w .boxes)) (t .leaves k) cancelled (w .boxes)
-      (λ e. visits-load (core .object-count) v (cancellation-frees size (core .owners) ram c) (core .object-count) (w .boxes) (omega arith))
+      cond-both (λ (b : Boxes). load-of b ≡ load-of (w .boxes)) (t .leaves k) visited (w .boxes)
+      (λ e. visits-load (core .object-count) v (closing-frees size (core .owners) ram c) (core .object-count) (w .boxes) (omega arith))
       (λ e. refl) in
       cond-both (λ (x : Sweep). load-of (x .boxes) ≤ suc (load-of (w .boxes))) (t .due k) _ w
       (λ e. omega (arith, notify-load (core .object-count) (t .note c k) closed, same))

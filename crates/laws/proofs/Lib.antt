@@ -11,7 +11,7 @@ pub mod Objects
 pub mod Sheets
 pub mod Sweeps
 pub mod Changes
-pub mod Cancelling
+pub mod Closing
 pub mod Bounds
 pub mod Acceptance
 pub mod StaysValid

@@ -20,7 +20,7 @@ use Rattle.rules.specs.State.{State, with-core, valid, initial-state}
 use Rattle.rules.specs.Outcome.{Outcome, judged, lifted, state-gate, sheet-gate, full-gate}
 use Rattle.rules.specs.Services as services
 use Rattle.rules.specs.Services.{set-controller-mode-checks, get-controller-mode-checks, configured-core, stopped-controller, with-request, mode-requested, write-reason, written-mailbox, taken}
-use Rattle.rules.specs.Polls.{Boxes, Sweep, Visit, Turn, visit-all, cancellation, boxes-of, sweep-of, after-sweep, turn-one, turn-all, mode-change, going-off, entering-request, entering-bus-off, takes-request, leaves-started, objects-polled, controllers-polled}
+use Rattle.rules.specs.Polls.{Boxes, Sweep, Visit, Turn, visit-all, closing, boxes-of, sweep-of, after-sweep, turn-one, turn-all, mode-change, going-off, entering-request, entering-bus-off, takes-request, leaves-started, objects-polled, controllers-polled}
 use Rattle.rules.specs.Polls as polls
 use Rattle.rules.specs.Events as events
 use Rattle.rules.specs.Events.{tx-complete-checks, on-bus-checks, has-unsent, sent-mailbox, filled-mailbox, marked-bus-off, fits-frame, filled}
@@ -33,7 +33,7 @@ use Rattle.laws.proofs.Pools.{named, taken-member, member-sends, member
 use Rattle.laws.proofs.Validity.{Valid, pools-valid, core-facts, facts-core, CoreKept, state-core, core-stays}
 use Rattle.laws.proofs.Sweeps.{boxes-length}
 use Rattle.laws.proofs.Changes.{not-pending, pending-needs-started, empty-valid, controllers-within, objects-within, set-mailbox-valid, sweep-valid, set-controller-valid}
-use Rattle.laws.proofs.Cancelling.{cancelled-own, cancelled-others}
+use Rattle.laws.proofs.Closing.{closed-own, closed-others}
 use Rattle.laws.proofs.Acceptance.{WritePassed, write-passed}
 
 -- what a permitted request asks for is a mode of an initialised controller
@@ -196,7 +196,7 @@ module _ (L : Limits) where
     suits : (h : ℕ) → h < core .object-count → owner-at (core .owners) h .controller ≡ c → mailbox-valid (receiving-at h) (is-started control) (mailbox-at (w .boxes .mailboxes) h) ≡ true
     suits h lh e = rw e at (own-mailbox (after-sweep core w) v h lh)
 
-    -- nothing is cancelled where the controller does not leave the bus
+    -- nothing is closed where the controller does not leave the bus
     nothing-left : (h : ℕ) → h < core .object-count → owner-at (core .owners) h .controller ≡ c → t .leaves control ≡ false
         → mailbox-valid (receiving-at h) (is-started (t .entered control)) (mailbox-at (w .boxes .mailboxes) h) ≡ true
     nothing-left h lh e stays = go (decide (is-started control))
@@ -208,19 +208,19 @@ module _ (L : Limits) where
             let sv : mailbox-valid (receiving-at h) false m ≡ true = rw st at (suits h lh e) in
             not-pending (receiving-at h) false (is-started (t .entered control)) m sv (pending-needs-started (receiving-at h) m sv)
 
-    turned : t .due control ≡ true → Valid L (after-sweep core (record { controllers = set (w .controllers) c (t .entered control); boxes = cond (t .leaves control) (visit-all (cancellation size (core .owners) ram c) (core .object-count) (w .boxes)) (w .boxes) }))
+    turned : t .due control ≡ true → Valid L (after-sweep core (record { controllers = set (w .controllers) c (t .entered control); boxes = cond (t .leaves control) (visit-all (closing size (core .owners) ram c) (core .object-count) (w .boxes)) (w .boxes) }))
     turned due =
-        let cancelled = visit-all (cancellation size (core .owners) ram c) (core .object-count) (w .boxes) in
-        set-controller-valid L (after-sweep core w) v c (t .entered control) (cond (t .leaves control) cancelled (w .boxes) .mailboxes) l
+        let closed = visit-all (closing size (core .owners) ram c) (core .object-count) (w .boxes) in
+        set-controller-valid L (after-sweep core w) v c (t .entered control) (cond (t .leaves control) closed (w .boxes) .mailboxes) l
         (sound .enters control (own-controller (after-sweep core w) v c l) due)
-        (cond-both (λ (b : Boxes). length (b .mailboxes) ≡ L .objects) (t .leaves control) cancelled (w .boxes)
-        (λ g. boxes-length (cancellation size (core .owners) ram c) (w .boxes) (core .object-count) ∙ v .mailbox-places)
+        (cond-both (λ (b : Boxes). length (b .mailboxes) ≡ L .objects) (t .leaves control) closed (w .boxes)
+        (λ g. boxes-length (closing size (core .owners) ram c) (w .boxes) (core .object-count) ∙ v .mailbox-places)
         (λ g. v .mailbox-places))
-        (λ h lh e. cond-both (λ (b : Boxes). mailbox-valid (receiving-at h) (is-started (t .entered control)) (mailbox-at (b .mailboxes) h) ≡ true) (t .leaves control) cancelled (w .boxes)
-        (λ g. cancelled-own size (core .owners) (core .object-count) ram c (w .boxes) h lh e (receiving-at h) (is-started control) (is-started (t .entered control)) (suits h lh e))
+        (λ h lh e. cond-both (λ (b : Boxes). mailbox-valid (receiving-at h) (is-started (t .entered control)) (mailbox-at (b .mailboxes) h) ≡ true) (t .leaves control) closed (w .boxes)
+        (λ g. closed-own size (core .owners) (core .object-count) ram c (w .boxes) h lh e (receiving-at h) (is-started control) (is-started (t .entered control)) (suits h lh e))
         (λ g. nothing-left h lh e g))
-        (λ h other. cond-both (λ (b : Boxes). mailbox-at (b .mailboxes) h ≡ mailbox-at (w .boxes .mailboxes) h) (t .leaves control) cancelled (w .boxes)
-        (λ g. cancelled-others size (core .owners) (core .object-count) ram c (w .boxes) h other)
+        (λ h other. cond-both (λ (b : Boxes). mailbox-at (b .mailboxes) h ≡ mailbox-at (w .boxes .mailboxes) h) (t .leaves control) closed (w .boxes)
+        (λ g. closed-others size (core .owners) (core .object-count) ram c (w .boxes) h other)
         (λ g. refl))
 
   -- a poll over the controllers

@@ -62,10 +62,10 @@
 --   read poll                    main-function-read
 --   mode poll                    main-function-mode                   every controller in use has its turn, as in a bus-off poll: turn-all
 --   bus-off poll                 main-function-bus-off
---   closing notice               closing-notification                 a confirmation or a cancellation
---   confirmed and freed          confirmation                         of the gone objects; its record is tx-confirmation
+--   closing notice               closing-notification                 a confirmation, tx-confirmation, or a cancellation, tx-cancellation (02, Q-4)
+--   confirmed and freed          confirmation                         of the gone objects
 --   indicated and emptied        indication                           of the full objects; its record is rx-indication, kind 2, received
---   cancelled and freed          cancellation                         of a controller's occupied objects; its record is tx-cancellation
+--   cancelled and freed          closing                              of a controller's occupied objects; the gone ones are confirmed (02, Q-4)
 --   carried out and cleared      mode-change                          of a controller with a request; what it is then: entering-request
 --   for each marked controller   going-off                            what a marked controller is then: entering-bus-off
 --   leaving STARTED, a stop      leaves-started
@@ -92,7 +92,7 @@
 --   record of kind 5, none       service-report, no-report            the record is development-error
 --
 -- What 01 has no word for (State, Outcome, Polls, Services, Events)
---   what a poll does at objects  Visit                                confirmation, indication, cancellation: when due, and what is told
+--   what a poll does at objects  Visit                                confirmation, indication, closing: when due, and what is told
 --   what it does at controllers  Turn                                 mode-change, going-off: when due, if it leaves the bus, what is told
 --   a call on the core           lifted                               makes it one on the state; the settings stay
 --   the state with a core        with-core                            with the core that has object h occupied (taken) or full (filled)

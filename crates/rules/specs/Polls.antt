@@ -41,14 +41,10 @@ visit-one v h b =
 unfoldable pub visit-all : Visit → ℕ → Boxes → Boxes
 visit-all v count b = rising count (visit-one v) b
 
--- Why an object is closed: its frame was sent, or its controller left the bus.
-pub data Closing : Type 0 where
-  by-sent by-stop : Closing
-
--- the closing notification of a mailbox: object, handle
-abbrev pub closing-notification : Closing → Mailbox → ℕ → ℕ → Notification
-closing-notification by-sent m h handle = tx-confirmation h handle
-closing-notification by-stop m h handle = tx-cancellation h handle
+-- The closing notice of an occupied object, by its mailbox alone: object, handle. 02, Q-4: "an occupied object that is gone gets its
+-- confirmation (kind 1) .., the others a cancellation."
+abbrev pub closing-notification : Mailbox → ℕ → ℕ → Notification
+closing-notification m h handle = cond (m .tx-done) (tx-confirmation h handle) (tx-cancellation h handle)
 
 -- What a poll does at a controller: when its turn is due, whether it leaves the bus then, the notification that tells of it, and what it is
 -- afterwards.
@@ -74,11 +70,12 @@ entering-request k = record { mode = k .requested-mode; requested-mode = NO-REQU
 abbrev pub entering-bus-off : Controller → Controller
 entering-bus-off k = record { mode = STOPPED; requested-mode = NO-REQUEST; bus-off = false }
 
--- "leaving STARTED cancels and frees every occupied object, rising, before the mode record"
+-- "leaving STARTED cancels and frees every occupied object, rising, before the mode record"; 02, Q-4: those that are gone are confirmed
 abbrev pub mode-change : Turn
 mode-change = record { due = takes-request; leaves = leaves-started; note = λ c k. mode-indication c (k .requested-mode); entered = entering-request }
 
--- "for each marked controller ..: its occupied objects are cancelled and freed, the bus-off record follows, the mode becomes STOPPED"
+-- "for each marked controller ..: its occupied objects are cancelled and freed, the bus-off record follows, the mode becomes STOPPED"; 02,
+-- Q-4: those that are gone are confirmed
 abbrev pub going-off : Turn
 going-off = record { due = λ k. k .bus-off; leaves = λ k. true; note = λ c k. bus-off-indication c; entered = entering-bus-off }
 
@@ -107,12 +104,12 @@ module _ (object-size : ℕ) where
   object-in ram h = part (object-size * h) object-size ram
 
   -- "Handles, identifiers and lengths in records are read from the memory lent to that call."
-  abbrev pub closing-of : Closing → List ℕ → ℕ → Mailbox → Notification
-  closing-of why ram h m = closing-notification why m h (handle-in (object-in ram h))
+  abbrev pub closing-of : List ℕ → ℕ → Mailbox → Notification
+  closing-of ram h m = closing-notification m h (handle-in (object-in ram h))
 
   -- "Write poll: each gone object .. is confirmed and freed"
   abbrev pub confirmation : List ℕ → Visit
-  confirmation ram = record { due = λ h m. m .tx-done; note = closing-of by-sent ram }
+  confirmation ram = record { due = λ h m. m .tx-done; note = closing-of ram }
 
   -- "Read poll: each full object .. is indicated and emptied."; its length has so many bytes
   abbrev pub indication : ℕ → List ℕ → Visit
@@ -122,15 +119,15 @@ module _ (object-size : ℕ) where
         note = λ h m. rx-indication h (identifier-in (object-in ram h)) (length-in length-size (object-in ram h));
       }
 
-  -- "cancels and frees every occupied object" of controller c
-  abbrev pub cancellation : List Owner → List ℕ → ℕ → Visit
-  cancellation owners ram c = record { due = λ h m. eqb (owner-at owners h .controller) c && m .tx-pending; note = closing-of by-stop ram }
+  -- a stop or bus-off of controller c: "every occupied object" of it gets its closing notice and is freed
+  abbrev pub closing : List Owner → List ℕ → ℕ → Visit
+  closing owners ram c = record { due = λ h m. eqb (owner-at owners h .controller) c && m .tx-pending; note = closing-of ram }
 
   -- where a controller's turn is due: if it leaves the bus its objects are closed, then it is told of, and it enters its next mode
   abbrev pub turn-one : Turn → Core → List ℕ → ℕ → Sweep → Sweep
   turn-one t core ram c w =
       let k = controller-at (w .controllers) c in
-      let closed = cond (t .leaves k) (visit-all (cancellation (core .owners) ram c) (core .object-count) (w .boxes)) (w .boxes) in
+      let closed = cond (t .leaves k) (visit-all (closing (core .owners) ram c) (core .object-count) (w .boxes)) (w .boxes) in
       cond (t .due k) (record { controllers = set (w .controllers) c (t .entered k); boxes = notify (t .note c k) closed }) w
 
   -- "controllers in rising order": those in use

@@ -7,12 +7,14 @@ use Rattle.laws.proofs.WriteRule.{write-rule, member-rule, busy-rule}
 use Rattle.laws.proofs.WriterRule.{read-back-rule, only-bytes-rule, say-rule, cannot-say-rule, short-buffer-rule, buffer-kept-rule, written-rule}
 use Rattle.laws.proofs.NextRule.{none-rule, rank-rule}
 use Rattle.history.specs.Claim.{HistoryRule, ReferenceRule}
-use Rattle.history.specs.PollRule.{PollRule}
+use Rattle.history.specs.Cancellation.{CancellationRule}
+use Rattle.history.specs.PollRule.{PollRule, FirstPollRule}
 use Rattle.history.specs.Demand1.{RefusalRule, ValidRule}
 use Rattle.history.specs.Operators.{OthersRule, ReceivedRule}
 use Rattle.history.specs.Replay.{ReplayRule}
 use Rattle.history.proofs.Proved.{demand-3, reference-rule}
-use Rattle.history.proofs.PollRule.{poll-rule}
+use Rattle.history.proofs.Cancellation.{cancellation-rule}
+use Rattle.history.proofs.PollRule.{poll-rule, first-poll-rule}
 use Rattle.history.proofs.Demand1.{refusal-rule, valid-rule}
 use Rattle.history.proofs.Operators.{others-rule, received-rule}
 use Rattle.history.proofs.Replay.{replay-rule}
@@ -35,6 +37,12 @@ ranged-write-rule = write-rule small-chip ranged-format
 -- demand 2: what a write poll reports
 pub ranged-poll-rule : PollRule small-chip ranged-format
 ranged-poll-rule = poll-rule small-chip ranged-format ranged-lawful
+
+pub ranged-first-poll-rule : FirstPollRule small-chip ranged-format
+ranged-first-poll-rule = first-poll-rule small-chip ranged-format ranged-lawful
+
+pub ranged-cancellation-rule : CancellationRule small-chip ranged-format
+ranged-cancellation-rule = cancellation-rule small-chip ranged-format ranged-lawful
 
 -- demand 3: every list of calls, and every first memory
 pub ranged-demand-3 : HistoryRule small-chip ranged-format

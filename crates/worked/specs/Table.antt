@@ -1,5 +1,6 @@
 -- 01, "Played by hand": the lines with * as one table, proved by computation. "P1 to P11 are one sequence", from the state before
--- initialisation; P10 has no * and stands here because it belongs to the sequence.
+-- initialisation; P10 has no * and stands here because it belongs to the sequence. 02, Q-4, "P8 and P11 stand; add the mixed case": a
+-- second sequence, in a table of its own.
 use Prim.Native.Nat.{ℕ}
 use mathlib.Core.Path.{_≡_, refl}
 use mathlib.Core.List.{List, [], _∷_, _++_, map}
@@ -72,17 +73,32 @@ K =
 init-K : Call
 init-K s ram = init chip can-format s sheet ram K
 
+-- one controller, and objects 0, 1 and 2 that send as object 0 of K does
+three-senders : List ℕ
+three-senders =
+    0x43 ∷ 0x48 ∷ 0x42 ∷ 0x00 ∷ 0x01 ∷ 0x01 ∷ 0x03 ∷ 0x00
+    ∷ 0x00 ∷ 0x00 ∷ 0x40 ∷ 0xCC ∷ 0x00 ∷ 0x00 ∷ 0x00 ∷ 0x00 ∷ 0x00 ∷ 0x00 ∷ 0x00 ∷ 0x00
+    ∷ 0x00 ∷ 0x00 ∷ 0x40 ∷ 0xCC ∷ 0x00 ∷ 0x00 ∷ 0x00 ∷ 0x00 ∷ 0x00 ∷ 0x00 ∷ 0x00 ∷ 0x00
+    ∷ 0x00 ∷ 0x00 ∷ 0x40 ∷ 0xCC ∷ 0x00 ∷ 0x00 ∷ 0x00 ∷ 0x00 ∷ 0x00 ∷ 0x00 ∷ 0x00 ∷ 0x00 ∷ []
+
+init-three : Call
+init-three s ram = init chip can-format s sheet ram three-senders
+
+-- object, handle; "40000123, bytes 01 to 09"
+write-to : ℕ → ℕ → Call
+write-to h handle s ram =
+    write chip can-format s sheet ram h handle
+    (record { identifier = 0x40000123; sdu = 0x01 ∷ 0x02 ∷ 0x03 ∷ 0x04 ∷ 0x05 ∷ 0x06 ∷ 0x07 ∷ 0x08 ∷ 0x09 ∷ [] })
+
 -- "write object 0, handle 7, 40000123, bytes 01 to 09"
 write-P5 : Call
-write-P5 s ram =
-    write chip can-format s sheet ram 0 7
-    (record { identifier = 0x40000123; sdu = 0x01 ∷ 0x02 ∷ 0x03 ∷ 0x04 ∷ 0x05 ∷ 0x06 ∷ 0x07 ∷ 0x08 ∷ 0x09 ∷ [] })
+write-P5 = write-to 0 7
 
 ask : ℕ → Call
 ask mode s ram = set-controller-mode chip can-format s sheet ram 0 mode
 
-sent : Call
-sent s ram = tx-complete chip can-format s ram 0
+sent : ℕ → Call
+sent h s ram = tx-complete chip can-format s ram h
 
 bus-off : Call
 bus-off s ram = bus-off-detected chip can-format s ram 0
@@ -145,14 +161,14 @@ table =
     -- P6* "again: code 2, reason 36."
     ∷ write-P5 gives line 2 36 no-answer [] 1 laid-down
     -- P7* "sent, write poll: 1,0,7,0; the next poll writes nothing."
-    ∷ sent gives line 0 0 no-answer [] 1 laid-down
+    ∷ sent 0 gives line 0 0 no-answer [] 1 laid-down
     ∷ write-poll gives line 0 0 no-answer (words-are 1 0 7 0 ∷ []) 1 laid-down
     ∷ write-poll gives line 0 0 no-answer [] 1 laid-down
     -- P8* "write as P5, ask STOPPED, mode poll, all records: 7,0,7,0, 3,0,2,0. Sent then: 38."
     ∷ write-P5 gives line 0 0 (taken-by 0) [] 1 laid-down
     ∷ ask STOPPED gives line 0 0 no-answer [] 1 laid-down
     ∷ mode-poll gives line 0 0 no-answer (words-are 7 0 7 0 ∷ words-are 3 0 2 0 ∷ []) 2 laid-down
-    ∷ sent gives line 1 38 no-answer [] 2 laid-down
+    ∷ sent 0 gives line 1 38 no-answer [] 2 laid-down
     -- P9* "ask STARTED, mode poll; arrived 00000120, 8 bytes, twice: object 1, then 6,1,1,0. Read poll: 2,1,288,8."
     ∷ ask STARTED gives line 0 0 no-answer [] 2 laid-down
     ∷ mode-poll gives line 0 0 no-answer (words-are 3 0 1 0 ∷ []) 1 laid-down
@@ -167,7 +183,41 @@ table =
     ∷ bus-off-poll gives line 0 0 no-answer (words-are 7 0 7 0 ∷ words-are 4 0 0 0 ∷ []) 2 laid-down
     ∷ []
 
--- Played by the rules, each call gives its line. The first memory has the right size and holds 0xAA everywhere, which Init clears.
-pub worked-lines : played table (initial-state chip can-format) (replicate (ram-size chip) 0xAA) ≡ map (λ r. r .line) table
-unfolding played seen sheet K init-K write-P5 ask sent bus-off arrived write-poll read-poll mode-poll bus-off-poll blank laid-down words-are line _gives_ table rising all-below list-below lowest-or better best-below big-endian number splice same-bytes words first-reason return-code configuration-of accepted-bytes core-valid valid judged state-gate sheet-gate full-gate init set-controller-mode write main-function-write main-function-read main-function-mode main-function-bus-off tx-complete bus-off-detected frame-arrived services.set-controller-mode polls.main-function-write polls.main-function-read polls.main-function-mode polls.main-function-bus-off visit-all turn-all events.tx-complete events.bus-off-detected events.best-object next-length lengths-below object-bytes
+-- started, objects 0, 1 and 2 written, and object 1 sent; with the bytes of object 0 before that
+sent-and-unsent : List ℕ → List Row
+sent-and-unsent object-0 =
+    ask STARTED gives line 0 0 no-answer [] 2 object-0
+    ∷ mode-poll gives line 0 0 no-answer (words-are 3 0 1 0 ∷ []) 1 object-0
+    ∷ write-to 0 7 gives line 0 0 (taken-by 0) [] 1 laid-down
+    ∷ write-to 1 8 gives line 0 0 (taken-by 1) [] 1 laid-down
+    ∷ write-to 2 9 gives line 0 0 (taken-by 2) [] 1 laid-down
+    ∷ sent 1 gives line 0 0 no-answer [] 1 laid-down
+    ∷ []
+
+-- "an occupied object that is gone gets its confirmation (kind 1) at its place in the rising order, the others a cancellation."
+pub mixed : List Row
+mixed =
+    (init-three gives line 0 0 no-answer [] 2 blank ∷ sent-and-unsent blank)
+    -- at a stop; then the write poll has nothing to confirm
+    ++ (ask STOPPED gives line 0 0 no-answer [] 1 laid-down
+    ∷ mode-poll gives line 0 0 no-answer (words-are 7 0 7 0 ∷ words-are 1 1 8 0 ∷ words-are 7 2 9 0 ∷ words-are 3 0 2 0 ∷ []) 2 laid-down
+    ∷ write-poll gives line 0 0 no-answer [] 2 laid-down
+    ∷ sent-and-unsent laid-down)
+    -- at a bus-off
+    ++ (bus-off gives line 0 0 no-answer [] 1 laid-down
+    ∷ bus-off-poll gives line 0 0 no-answer (words-are 7 0 7 0 ∷ words-are 1 1 8 0 ∷ words-are 7 2 9 0 ∷ words-are 4 0 0 0 ∷ []) 2 laid-down
+    ∷ write-poll gives line 0 0 no-answer [] 2 laid-down
+    ∷ [])
+
+-- Played by the rules, each call of a table gives its line. The first memory has the right size and holds 0xAA everywhere, which Init
+-- clears.
+abbrev pub Played : List Row → Type 0
+Played rows = played rows (initial-state chip can-format) (replicate (ram-size chip) 0xAA) ≡ map (λ r. r .line) rows
+
+pub worked-lines : Played table
+unfolding played seen sheet K init-K write-to write-P5 ask sent bus-off arrived write-poll read-poll mode-poll bus-off-poll blank laid-down words-are line _gives_ table rising all-below list-below lowest-or better best-below big-endian number splice same-bytes words first-reason return-code configuration-of accepted-bytes core-valid valid judged state-gate sheet-gate full-gate init set-controller-mode write main-function-write main-function-read main-function-mode main-function-bus-off tx-complete bus-off-detected frame-arrived services.set-controller-mode polls.main-function-write polls.main-function-read polls.main-function-mode polls.main-function-bus-off visit-all turn-all events.tx-complete events.bus-off-detected events.best-object next-length lengths-below object-bytes
 worked-lines = refl
+
+pub mixed-lines : Played mixed
+unfolding played seen sheet three-senders init-three write-to ask sent bus-off write-poll mode-poll bus-off-poll blank laid-down words-are line _gives_ sent-and-unsent mixed rising all-below list-below lowest-or better best-below big-endian number splice same-bytes words first-reason return-code configuration-of accepted-bytes core-valid valid judged state-gate sheet-gate full-gate init set-controller-mode write main-function-write main-function-read main-function-mode main-function-bus-off tx-complete bus-off-detected frame-arrived services.set-controller-mode polls.main-function-write polls.main-function-read polls.main-function-mode polls.main-function-bus-off visit-all turn-all events.tx-complete events.bus-off-detected events.best-object next-length lengths-below object-bytes
+mixed-lines = refl

@@ -25,11 +25,12 @@ enum Action {
     Get,
     Next,
     BusOff,
+    CutShort,
     Look,
     BadMoment,
 }
 
-const ACTIONS: [(usize, Action); 13] = [
+const ACTIONS: [(usize, Action); 14] = [
     (240, Action::Write),
     (170, Action::Sent),
     (190, Action::Arrived),
@@ -39,8 +40,9 @@ const ACTIONS: [(usize, Action); 13] = [
     (20, Action::PollBusOff),
     (70, Action::Set),
     (30, Action::Get),
-    (40, Action::Next),
+    (60, Action::Next),
     (6, Action::BusOff),
+    (12, Action::CutShort),
     (40, Action::Look),
     (30, Action::BadMoment),
 ];
@@ -179,6 +181,7 @@ impl Maker {
             Action::Get => self.get(),
             Action::Next => self.next_to_send(),
             Action::BusOff => self.bus_off(),
+            Action::CutShort => self.cut_short(),
             Action::Look => Some(self.look()),
             Action::BadMoment => Some(self.bad_moment()),
         }
@@ -262,12 +265,21 @@ impl Maker {
         ))
     }
 
-    fn sent_waiting(&mut self) -> Option<String> {
-        let waiting = self.objects_where(|_, place, controller| {
+    /// The objects with a frame that can be sent.
+    fn waiting(&self) -> Vec<u32> {
+        self.objects_where(|_, place, controller| {
             place.occupied && !place.gone && !controller.off_bus
-        });
+        })
+    }
+
+    fn sent_waiting(&mut self) -> Option<String> {
+        let waiting = self.waiting();
         let object = *self.rng.choose(&waiting)?;
-        Some(format!("sent {}", number_word(&mut self.rng, object)))
+        Some(self.sent(object))
+    }
+
+    fn sent(&mut self, object: u32) -> String {
+        format!("sent {}", number_word(&mut self.rng, object))
     }
 
     /// Mostly a frame that some object wants; now and then any good frame.
@@ -353,6 +365,45 @@ impl Maker {
     fn bus_off(&mut self) -> Option<String> {
         let running = self.controllers_where(|place| place.mode == Mode::Started && !place.off_bus);
         Some(format!("busoff {}", self.rng.choose(&running)?))
+    }
+
+    /// Frames leave, and before any write poll their controller is stopped or goes
+    /// off the bus. At times a frame is written in between; mostly the controller is
+    /// started again. The first of the lines.
+    fn cut_short(&mut self) -> Option<String> {
+        let waiting = self.waiting();
+        let object = *self.rng.choose(&waiting)?;
+        let controller = self.object_config(object)?.controller;
+        let (cut, poll) = if self.rng.percent(40) {
+            (format!("set {controller} STOPPED"), "poll mode")
+        } else {
+            (format!("busoff {controller}"), "poll busoff")
+        };
+        let mut lines = self.leave(controller);
+        lines.push(cut);
+        if self.rng.percent(25) {
+            lines.extend(self.write_free());
+        }
+        lines.push(poll.to_string());
+        if self.rng.percent(75) {
+            lines.extend([format!("set {controller} STARTED"), "poll mode".to_string()]);
+        }
+        Some(self.first_of(lines))
+    }
+
+    /// All frames that wait on a controller are sent, or some of them, in any order.
+    fn leave(&mut self, controller: u8) -> Vec<String> {
+        let mut waiting = self.objects_where(|config, place, _| {
+            config.controller == controller && place.occupied && !place.gone
+        });
+        let count = waiting.len();
+        let leaving = if self.rng.percent(40) { count } else { self.rng.below(count + 1) };
+        let mut lines = Vec::new();
+        for _ in 0..leaving {
+            let object = waiting.swap_remove(self.rng.below(waiting.len()));
+            lines.push(self.sent(object));
+        }
+        lines
     }
 
     /// Data, show, state and the writer, which change nothing.

@@ -65,7 +65,8 @@ pub struct Maker {
     night: Night,
     /// True while controllers are being stopped for a DeInit.
     winding_down: bool,
-    /// The lines still to come of a configuration in words.
+    /// The lines still to come of several that belong together, such as a
+    /// configuration in words.
     coming: VecDeque<String>,
     answer: Vec<u8>,
 }

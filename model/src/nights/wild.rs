@@ -75,7 +75,7 @@ impl Maker {
         }
     }
 
-    /// The next line of a configuration in words, now and then damaged.
+    /// The next of several lines that belong together, now and then damaged.
     fn next_coming(&mut self) -> Vec<u8> {
         let command = self.coming.pop_front().unwrap_or_default();
         if self.rng.one_in(40) {

@@ -16,14 +16,17 @@ read-mailbox-requires c κs = search needs
 visit-due-requires : tie.Need-visit-due-requires
 visit-due-requires c κs = search needs
 
+visit-note-requires : tie.Need-visit-note-requires
+visit-note-requires c κs = search needs
+
 free-object-requires : tie.Need-free-object-requires
 free-object-requires c κs =
-    let start = c .before .before .before .before .before .before .before .before .before .before .before .before .before .before .before in
+    let start = c .before .before .before .before .before .before .before .before .before .before .before .before .before .before .before .before in
     let a = start .args in
     let owners : List Owner = record { controller = a .owner; receiving = false; pool = 0 } ∷ [] in
-    let due = sym (c .before .before .before .before .before .visit-due .ensures (a .size) (a .two-bytes) owners (a .ram .now) 0 refl) ∙ c .before .before .before .before .if1 .taken in
-    let busy = sym (ap mailbox-busy (c .before .before .before .before .before .before .read-mailbox .ensures)) ∙ visit-frees (a .visit) (a .size) (a .two-bytes) owners (a .ram .now) 0 _ due in
-    (start .pre .0, (start .pre .1 .0, start .pre .1 .1 busy))
+    let due = sym (c .before .before .before .before .before .before .visit-due .ensures (a .size) (a .two-bytes) owners (a .ram .now) 0 refl) ∙ c .before .before .before .before .before .if1 .taken in
+    let busy = sym (ap mailbox-busy (c .before .before .before .before .before .before .before .read-mailbox .ensures)) ∙ visit-frees (a .visit) (a .size) (a .two-bytes) owners (a .ram .now) 0 _ due in
+    (start .pre .0, start .pre .1 .1 busy)
 
 same-length : tie.Need-same-length
 same-length c = search needs
@@ -39,10 +42,12 @@ same-length-4 c = search needs
 
 returns : tie.Need-returns
 returns c owners e =
-    let start = c .before .before .before .before .before .before .before .before .before .before .before .before .before .before .before .before .before .before .before .before .before .before .before .before in
+    let start = c .before .before .before .before .before .before .before .before .before .before .before .before .before .before .before .before .before .before .before .before .before .before .before .before .before in
     let a = start .args in
-    visited-freed (visit-of (a .visit) (a .size) (a .two-bytes)) owners (a .ram .now) (a .object) _ (c .before .before .before .before .before .before .before .before .free-object .ensures)
-    (rw (c .before .before .before .before .before .before .before .before .before .before .before .before .before .before .before .read-mailbox .ensures) at (sym (c .before .before .before .before .before .before .before .before .before .before .before .before .before .before .visit-due .ensures (a .size) (a .two-bytes) owners (a .ram .now) (a .object) e) ∙ c .before .before .before .before .before .before .before .before .before .before .before .before .before .if1 .taken))
+    let read = c .before .before .before .before .before .before .before .before .before .before .before .before .before .before .before .before .read-mailbox .ensures in
+    visited-freed (visit-of (a .visit) (a .size) (a .two-bytes) owners (a .ram .now)) (a .object) _ (c .before .before .before .before .before .before .before .before .free-object .ensures)
+    (rw read at (c .before .before .before .before .before .before .before .before .before .before .before .before .before .visit-note .ensures owners))
+    (rw read at (sym (c .before .before .before .before .before .before .before .before .before .before .before .before .before .before .before .visit-due .ensures (a .size) (a .two-bytes) owners (a .ram .now) (a .object) e) ∙ c .before .before .before .before .before .before .before .before .before .before .before .before .before .before .if1 .taken))
 
 same-length-5 : tie.Need-same-length-5
 same-length-5 c = search needs
@@ -66,6 +71,7 @@ visit-one-spec =
     (tie.spec
     read-mailbox-requires
     visit-due-requires
+    visit-note-requires
     free-object-requires
     same-length
     same-length-2
