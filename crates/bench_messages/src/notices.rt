@@ -3,7 +3,7 @@ ghost use Rattle.bench_text.specs.Put.{Put};
 ghost use Rattle.bench_messages.specs.Notices as notices;
 use bench_say::say::say;
 
-// How a write is closed: a stop cancels a frame, a bus-off takes it.
+// How a write is closed: a frame that was sent is confirmed, by whichever poll; any other a stop cancels, or a bus-off takes.
 pub fn closing(out: &mut [u8], at: usize, kind: u32, by_bus_off: bool) -> usize
     ensures { λ r. ⌜ Put at (notices.closing kind «by_bus_off») (now (out .entry)) (now (out .exit)) r ⌝ }
 {

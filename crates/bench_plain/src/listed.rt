@@ -1,7 +1,6 @@
-// The lists of frames that a bus-off took or a stop cancelled, kept for the end of the night.
+// The lists of frames that a bus-off took or a stop cancelled, before they were sent, kept for the end of the night.
 use crate::book::owner;
 use crate::frames::data;
-use crate::frames::sent;
 use crate::frames::written;
 use crate::night::CANCELLED_AT;
 use crate::night::Lists;
@@ -10,17 +9,10 @@ use crate::night::more;
 use crate::notifications::Notification;
 use bench_messages::frames;
 use bench_text::put::has_room;
-use can::OBJECTS;
 use can::State;
 
 // The most bytes that an entry takes.
 const ENTRY: usize = 512;
-
-// Whether the frame of an object was sent.
-pub fn is_done(state: State, object: u32) -> bool {
-    let h = object as usize;
-    if h < OBJECTS { state.dones[h] } else { false }
-}
 
 // An entry: the line of the poll, the controller, and the whole frame. The state is that before the poll.
 fn entry(
@@ -35,7 +27,6 @@ fn entry(
     let controller = owner(state, n.place) as u64;
     let mut end = frames::polled(out, at, line, controller);
     end = written(out, end, book, ram, n.place, n.second as u64);
-    end = sent(out, end, book, n.place, is_done(state, n.place));
     data(out, end, ram, n.place)
 }
 

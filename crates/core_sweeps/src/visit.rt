@@ -67,13 +67,14 @@ pub fn visit_note(
 {
     let number = object as u32;
     match visit {
-        Visit::Sent | Visit::Occupied { controller: _ } => {
-            closing_note(m, number, handle_at(ram, size, object))
-        }
+        Visit::Sent => closing_note(m, number, handle_at(ram, size, object)),
         Visit::Received => Notification::RxIndication {
             object: number,
             identifier: identifier_at(ram, size, object),
             length: length_at(ram, size, two_bytes, object),
         },
+        Visit::Occupied { controller: _ } => {
+            closing_note(m, number, handle_at(ram, size, object))
+        }
     }
 }

@@ -77,9 +77,9 @@ module _ (h k : ℕ) (b : List ℕ) (m : Mailbox) (bytes : List ℕ) (free : m .
       -- a confirmation of this object is the write's own, or the account would break
       own : (i handle : ℕ) → eqb i h ≡ true → Closed (cond (eqb handle k) closed broken) ns → Reported (tx-confirmation h k) (tx-confirmation i handle ∷ ns)
       own i handle e p = ⊎-elim
-        (λ (same : eqb handle k ≡ true). inl (rw (eqb-true i h e, eqb-true handle k same)))
-        (λ (differs : eqb handle k ≡ false). absurd (not-broken m bytes (after-notifications h broken ns) (rw differs at p) (stays-broken h ns)))
-        (decide (eqb handle k))
+          (λ (same : eqb handle k ≡ true). inl (rw (eqb-true i h e, eqb-true handle k same)))
+          (λ (differs : eqb handle k ≡ false). absurd (not-broken m bytes (after-notifications h broken ns) (rw differs at p) (stays-broken h ns)))
+          (decide (eqb handle k))
 
       go : (x : Notification) → cancels h x ≡ false → (Closed (held k b true) ns → Reported (tx-confirmation h k) ns) → Closed (held k b true) (x ∷ ns) → Reported (tx-confirmation h k) (x ∷ ns)
       go (tx-confirmation i handle) c rest p =
