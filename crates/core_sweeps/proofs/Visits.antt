@@ -12,7 +12,7 @@ use Rattle.rules.specs.Repeat.{rising}
 use Rattle.rules.specs.Bytes.{splice}
 use Rattle.rules.specs.Notification.{Notification, words, all-words}
 use Rattle.rules.specs.Core.{Owner, Mailbox, empty-mailbox, owner-at, mailbox-at}
-use Rattle.rules.specs.Polls.{Boxes, Visit, notify, visit-one, visit-all, confirmation, indication, closing}
+use Rattle.rules.specs.Polls.{Boxes, Visit, notify, visit-one, visit-all}
 use Rattle.laws.proofs.Tests.{cond-both, decide}
 use Rattle.laws.proofs.Splices.{splice-nil, splice-then, length-splice}
 use Rattle.laws.proofs.Sheets.{length-words, length-all-words, all-words-one, all-words-append}

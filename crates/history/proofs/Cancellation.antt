@@ -1,17 +1,15 @@
 -- Only frames that were not sent are cancelled: what is occupied and gone has a confirmation as its closing notice.
 use Prim.Native.Nat.{ℕ}
-use mathlib.Core.Path.{_≡_, refl, sym, _∙_, subst}
+use mathlib.Core.Path.{_≡_, refl, _∙_}
 use mathlib.Core.Bool.{Bool, true, false}
-use mathlib.Core.List.{List, [], _∷_}
-use native.Mathlib.Decide.{ℕ-discrete}
+use mathlib.Core.List.{List, [], _∷_, _++_}
 use lib.Dec.{eqb}
-use lib.Seq.{getD-set-other}
 use borrow.Author.Tests.{ne-eqb}
 use Rattle.rules.specs.Limits.{Limits}
 use Rattle.rules.specs.Format.{Format, Lawful}
 use Rattle.rules.specs.Notification.{Notification, tx-confirmation, tx-cancellation}
 use Rattle.rules.specs.Configuration.{Configuration, no-configuration}
-use Rattle.rules.specs.Core.{Controller, Owner, Mailbox, Core, empty-mailbox, owner-at, mailbox-at}
+use Rattle.rules.specs.Core.{Controller, Owner, Mailbox, Core, owner-at, mailbox-at}
 use Rattle.rules.specs.State.{State, initial-state}
 use Rattle.rules.specs.Outcome.{Outcome}
 use Rattle.rules.specs.Polls.{Boxes, Visit, Turn, closing-notification, visit-all, turn-all, boxes-of, confirmation, indication, closing, mode-change, going-off}
@@ -24,10 +22,9 @@ use Rattle.history.specs.Notices.{one-of, cancels, cancelled-in}
 use Rattle.history.specs.LastFrame.{LastFrame, no-frame, frame-after}
 use Rattle.history.specs.Cancellation.{UnsentCancelled, OnlyUnsentCancelled, CancellationRule}
 use Rattle.laws.proofs.Tests.{cond-both, right, clash}
-use Rattle.laws.proofs.Sweeps.{set-default}
 use Rattle.history.proofs.Judged.{judgement, received-cases, performed-cases}
 use Rattle.history.proofs.Notices.{quiet-error, still-none, none-cancelling}
-use Rattle.history.proofs.Sweeps.{freed, visits-keep, turns-keep}
+use Rattle.history.proofs.Sweeps.{Here, Keeps, visits-keep-here, turns-keep-here}
 use Rattle.history.proofs.Objects.{Matches, Follows, follows-on, follows-first}
 use Rattle.history.proofs.LastFrame.{Owned, owned-after}
 
@@ -37,32 +34,28 @@ Gone m = m .tx-pending ≡ true → m .tx-done ≡ true
 
 module _ (h : ℕ) where
   -- a sweep on its way: object h is gone or free, and was not cancelled
-  record Spared (b : Boxes) : Type 0 where
-    gone : Gone (mailbox-at (b .mailboxes) h)
-    uncancelled : cancelled-in h (b .notifications) ≡ false
+  record Spared (m : Mailbox) (ns : List Notification) : Type 0 where
+    gone : Gone m
+    uncancelled : cancelled-in h ns ≡ false
+
+  -- one notification more, which does not cancel the object
+  still-spared : (m : Mailbox) (ns : List Notification) (n : Notification) → cancels h n ≡ false → Spared m ns → Spared m (ns ++ (n ∷ []))
+  still-spared m ns n quiet q = record { gone = q .gone; uncancelled = still-none (cancels h) ns n (q .uncancelled) quiet }
 
   -- a visit spares the object: what is gone is not cancelled, and any other object's notification names that one
   record Spares (v : Visit) : Type 0 where
     own : (m : Mailbox) → Gone m → v .due h m ≡ true → cancels h (v .note h m) ≡ false
     other : (i : ℕ) (m : Mailbox) → (i ≡ h → ⊥) → cancels h (v .note i m) ≡ false
 
-  visits-spared : (v : Visit) → Spares v → (n : ℕ) (b : Boxes) → Spared b → Spared (visit-all v n b)
-  visits-spared v spares = visits-keep Spared v (λ i b q due. go i b q due (ℕ-discrete i h))
-    where
-      own : (b : Boxes) → Spared b → v .due h (mailbox-at (b .mailboxes) h) ≡ true → Spared (freed v h b)
-      own b q due =
-          record {
-            gone = subst (λ (m : Mailbox). Gone m) (sym (set-default (b .mailboxes) h empty-mailbox)) (λ e. clash e refl);
-            uncancelled = still-none (cancels h) (b .notifications) _ (q .uncancelled) (spares .own (mailbox-at (b .mailboxes) h) (q .gone) due);
-          }
+  spares-keeps : (v : Visit) → Spares v → Keeps h Spared v
+  spares-keeps v spares =
+      record {
+        own = λ m ns q due. record { gone = λ e. clash e refl; uncancelled = still-none (cancels h) ns (v .note h m) (q .uncancelled) (spares .own m (q .gone) due) };
+        other = λ i x m ns d q. still-spared m ns (v .note i x) (spares .other i x d) q;
+      }
 
-      go : (i : ℕ) (b : Boxes) → Spared b → v .due i (mailbox-at (b .mailboxes) i) ≡ true → Dec (i ≡ h) → Spared (freed v i b)
-      go i b q due (yes e) = subst (λ (j : ℕ). v .due j (mailbox-at (b .mailboxes) j) ≡ true → Spared (freed v j b)) (sym e) (own b q) due
-      go i b q due (no d) =
-          record {
-            gone = subst (λ (m : Mailbox). Gone m) (sym (getD-set-other (b .mailboxes) i h empty-mailbox empty-mailbox (λ e. d (sym e)))) (q .gone);
-            uncancelled = still-none (cancels h) (b .notifications) _ (q .uncancelled) (spares .other i (mailbox-at (b .mailboxes) i) d);
-          }
+  visits-spared : (v : Visit) → Spares v → (n : ℕ) (b : Boxes) → Here h Spared b → Here h Spared (visit-all v n b)
+  visits-spared v spares = visits-keep-here h Spared v (spares-keeps v spares)
 
   -- the closing notice of another object
   other-spared : (i handle : ℕ) (m : Mailbox) → (i ≡ h → ⊥) → cancels h (closing-notification m i handle) ≡ false
@@ -84,11 +77,9 @@ module _ (h : ℕ) where
         }
 
     -- the notification of a turn cancels nothing
-    turns-spared : (t : Turn) (core : Core) → ((c : ℕ) (k : Controller) → cancels h (t .note c k) ≡ false) → Spared (boxes-of core) → Spared (turn-all size t core ram .boxes)
+    turns-spared : (t : Turn) (core : Core) → ((c : ℕ) (k : Controller) → cancels h (t .note c k) ≡ false) → Here h Spared (boxes-of core) → Here h Spared (turn-all size t core ram .boxes)
     turns-spared t core quiet =
-        turns-keep size t core ram Spared
-        (λ c k b q. record { gone = q .gone; uncancelled = still-none (cancels h) (b .notifications) (t .note c k) (q .uncancelled) (quiet c k) })
-        (λ c due leaves. visits-spared (closing size (core .owners) ram c) (closing-spares (core .owners) c) (core .object-count))
+        turns-keep-here h Spared size t core ram (λ c k m ns q. still-spared m ns (t .note c k) (quiet c k) q) (λ c. spares-keeps (closing size (core .owners) ram c) (closing-spares (core .owners) c))
 
 module _ (L : Limits) (F : Format) (h : ℕ) where
   module _ (s : State F) (ram : List ℕ) (x : LastFrame) (sent-gone : x .sent ≡ true → Gone (mailbox-at (s .core .mailboxes) h)) where
@@ -96,7 +87,7 @@ module _ (L : Limits) (F : Format) (h : ℕ) where
     abbrev Uncancelled : Effect F → Outcome (State F) → Type 0
     Uncancelled e o = frame-after F h x e .sent ≡ true → cancelled-in h (o .notifications) ≡ false
 
-    starts : x .sent ≡ true → Spared h (boxes-of (s .core))
+    starts : x .sent ≡ true → Here h (Spared h) (boxes-of (s .core))
     unfolding one-of
     starts sent = record { gone = sent-gone sent; uncancelled = refl }
 

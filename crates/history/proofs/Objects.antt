@@ -3,7 +3,7 @@
 use Prim.Native.Nat.{ℕ, _≤_, _<_, _^_}
 use mathlib.Core.Path.{_≡_, refl, ap, sym, _∙_, subst, subst⁻¹, subst₂}
 use mathlib.Core.Bool.{Bool, true, false, not, _&&_, _||_}
-use mathlib.Core.List.{List, [], _∷_}
+use mathlib.Core.List.{List, [], _∷_, _++_}
 use mathlib.Core.Option.{some}
 use mathlib.Core.Logic.{_⊎_, inl, inr}
 use native.Mathlib.Omega.{arith}
@@ -24,7 +24,7 @@ use Rattle.rules.specs.Configuration.{Configuration, no-configuration}
 use Rattle.rules.specs.State.{State, with-core, valid, initial-state}
 use Rattle.rules.specs.Outcome.{Outcome, Answer, taken-by, stored-in, unwanted, lost, accepted, full-gate, state-gate}
 use Rattle.rules.specs.Services.{deinit-checks, some-started, write-reason, written-mailbox}
-use Rattle.rules.specs.Polls.{Boxes, Visit, Turn, closing-notification, object-in, notify, visit-all, turn-all, boxes-of, confirmation, indication, closing, mode-change, going-off}
+use Rattle.rules.specs.Polls.{Boxes, Visit, Turn, closing-notification, object-in, visit-all, turn-all, boxes-of, confirmation, indication, closing, mode-change, going-off}
 use Rattle.rules.specs.Events as events
 use Rattle.rules.specs.Events.{tx-complete-checks, on-bus-checks, sent-mailbox, filled-mailbox, has-unsent, fits-frame}
 use Rattle.rules.specs.Calls.{init-checks, settings-of-object, frame-reason, best-object, stored}
@@ -40,14 +40,13 @@ use Rattle.laws.proofs.Reasons.{then-first, then-second, check-passed}
 use Rattle.laws.proofs.Pools.{named, taken-member, member-settings}
 use Rattle.laws.proofs.Validity.{Valid, owners-placed, core-facts, state-core, settings-agree}
 use Rattle.laws.proofs.Changes.{objects-within}
-use Rattle.laws.proofs.Sweeps.{set-default}
 use Rattle.laws.proofs.Objects.{same-bytes-refl, object-laid, object-kept}
 use Rattle.laws.proofs.Acceptance.{WritePassed, gate-passed, write-passed}
 use Rattle.laws.proofs.Choice.{choice-tells}
 use Rattle.laws.proofs.StaysValid.{initial-valid, own-mailbox, pending-facts}
 use Rattle.history.proofs.Judged.{judgement, denied, core-done, visits-done, turns-done, received-cases, performed-cases}
 use Rattle.history.proofs.Notices.{quiet-error, closes-named, unclosed, after-more, after-unclosed}
-use Rattle.history.proofs.Sweeps.{freed, visits-keep, turns-keep}
+use Rattle.history.proofs.Sweeps.{Here, Keeps, visits-keep-here, turns-keep-here}
 use Rattle.history.proofs.Steps.{performed-valid}
 
 -- an empty mailbox is the one at rest
@@ -186,39 +185,34 @@ module _ (size h : ℕ) (ram : List ℕ) where
         other = λ i m d. closes-named h i _ m ∙ ne-eqb i h d;
       }
 
-  -- a sweep on its way: the account, fed the notifications so far, agrees with the mailbox
   module _ (a : Account) where
-    pub record OnWay (b : Boxes) : Type 0 where
-      pub agrees : Matches (mailbox-at (b .mailboxes) h) (object-in size ram h) (after-notifications h a (b .notifications))
-      pub flags : Flags (mailbox-at (b .mailboxes) h)
+    -- a sweep on its way: the account, fed the notifications so far, agrees with the mailbox
+    record OnWay (m : Mailbox) (ns : List Notification) : Type 0 where
+      agrees : Matches m (object-in size ram h) (after-notifications h a ns)
+      flags : Flags m
 
-    on-way : (b : Boxes) (m : Mailbox) (x : Account) → mailbox-at (b .mailboxes) h ≡ m → after-notifications h a (b .notifications) ≡ x → Matches m (object-in size ram h) x → Flags m → OnWay b
-    on-way b m x same-mailbox same-account p f =
+    -- one notification more, which does not close the object
+    still-on-way : (m : Mailbox) (ns : List Notification) (n : Notification) → closes h n ≡ false → OnWay m ns → OnWay m (ns ++ (n ∷ []))
+    still-on-way m ns n quiet q =
+        record { agrees = subst (λ (x : Account). Matches m (object-in size ram h) x) (sym (after-unclosed h a ns n quiet)) (q .agrees); flags = q .flags }
+
+    suits-keeps : (v : Visit) → Suits v → Keeps h OnWay v
+    suits-keeps v suits =
         record {
-          agrees = subst₂ (λ (y : Mailbox) (z : Account). Matches y (object-in size ram h) z) (sym same-mailbox) (sym same-account) p;
-          flags = subst (λ (y : Mailbox). Flags y) (sym same-mailbox) f;
+          own = λ m ns q due. record {
+            agrees = subst (λ (x : Account). Matches empty-mailbox (object-in size ram h) x) (sym (after-more h a ns (v .note h m) ∙ suits .own m (after-notifications h a ns) (q .agrees) (q .flags) due)) refl;
+            flags = empty-flags;
+          };
+          other = λ i x m ns d q. still-on-way m ns (v .note i x) (suits .other i x d) q;
         }
 
-    visits-on-way : (v : Visit) → Suits v → (n : ℕ) (b : Boxes) → OnWay b → OnWay (visit-all v n b)
-    visits-on-way v suits = visits-keep OnWay v (λ i b q due. go i b q due (ℕ-discrete i h))
-      where
-        own : (b : Boxes) → OnWay b → v .due h (mailbox-at (b .mailboxes) h) ≡ true → OnWay (freed v h b)
-        own b q due =
-            on-way (freed v h b) empty-mailbox closed (set-default (b .mailboxes) h empty-mailbox)
-            (after-more h a (b .notifications) _ ∙ suits .own (mailbox-at (b .mailboxes) h) _ (q .agrees) (q .flags) due) refl empty-flags
-
-        go : (i : ℕ) (b : Boxes) → OnWay b → v .due i (mailbox-at (b .mailboxes) i) ≡ true → Dec (i ≡ h) → OnWay (freed v i b)
-        go i b q due (yes e) = subst (λ (j : ℕ). v .due j (mailbox-at (b .mailboxes) j) ≡ true → OnWay (freed v j b)) (sym e) (own b q) due
-        go i b q due (no d) =
-            on-way (freed v i b) (mailbox-at (b .mailboxes) h) (after-notifications h a (b .notifications)) (getD-set-other (b .mailboxes) i h empty-mailbox empty-mailbox (λ e. d (sym e)))
-            (after-unclosed h a (b .notifications) _ (suits .other i (mailbox-at (b .mailboxes) i) d)) (q .agrees) (q .flags)
+    visits-on-way : (v : Visit) → Suits v → (n : ℕ) (b : Boxes) → Here h OnWay b → Here h OnWay (visit-all v n b)
+    visits-on-way v suits = visits-keep-here h OnWay v (suits-keeps v suits)
 
     -- the notification of a turn closes nothing
-    turns-on-way : (t : Turn) (core : Core) → ((c : ℕ) (k : Controller) → closes h (t .note c k) ≡ false) → OnWay (boxes-of core) → OnWay (turn-all size t core ram .boxes)
+    turns-on-way : (t : Turn) (core : Core) → ((c : ℕ) (k : Controller) → closes h (t .note c k) ≡ false) → Here h OnWay (boxes-of core) → Here h OnWay (turn-all size t core ram .boxes)
     turns-on-way t core quiet =
-        turns-keep size t core ram OnWay
-        (λ c k b q. on-way (notify (t .note c k) b) (mailbox-at (b .mailboxes) h) (after-notifications h a (b .notifications)) refl (after-unclosed h a (b .notifications) (t .note c k) (quiet c k)) (q .agrees) (q .flags))
-        (λ c due leaves. visits-on-way (closing size (core .owners) ram c) (closing-suits (core .owners) c) (core .object-count))
+        turns-keep-here h OnWay size t core ram (λ c k m ns q. still-on-way m ns (t .note c k) (quiet c k) q) (λ c. suits-keeps (closing size (core .owners) ram c) (closing-suits (core .owners) c))
 
 module _ (L : Limits) (F : Format) (h : ℕ) where
   -- the configuration that a state has
@@ -368,7 +362,7 @@ module _ (L : Limits) (F : Format) (h : ℕ) where
 
     -- the polls
 
-    starts : OnWay (L .object-size) h ram a (boxes-of (s .core))
+    starts : Here h (OnWay (L .object-size) h ram a) (boxes-of (s .core))
     unfolding after-notifications
     starts = record { agrees = p; flags = mailbox-flags L (s .core) v h }
 

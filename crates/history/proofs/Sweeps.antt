@@ -1,18 +1,20 @@
 -- What the polls keep: any property of the mailboxes and the notifications that each visit, or each turn, keeps.
 use Prim.Native.Nat.{ℕ, zero, suc, _≤_, _<_}
-use mathlib.Core.Path.{_≡_, subst}
+use mathlib.Core.Path.{_≡_, sym, subst}
 use mathlib.Core.Bool.{true, cond}
 use mathlib.Core.List.{List, [], _∷_, _++_}
 use native.Mathlib.Omega.{arith}
 use native.Mathlib.Nat.{le-refl}
+use native.Mathlib.Decide.{ℕ-discrete}
 use lib.ListN.{length, set}
-use lib.Seq.{getD-set-same}
+use lib.Seq.{getD-set-same, getD-set-other}
 use Rattle.rules.specs.Repeat.{rising}
-use Rattle.rules.specs.Core.{Controller, Core, idle-controller, empty-mailbox, controller-at, mailbox-at}
+use Rattle.rules.specs.Notification.{Notification}
+use Rattle.rules.specs.Core.{Controller, Mailbox, Core, idle-controller, empty-mailbox, controller-at, mailbox-at}
 use Rattle.rules.specs.Polls.{Boxes, Sweep, Visit, Turn, notify, visit-one, visit-all, closing, turn-one, turn-all, boxes-of, sweep-of}
 use Rattle.laws.proofs.Tests.{cond-both, cond-map}
 use Rattle.laws.proofs.Repeat.{rising-keeps}
-use Rattle.laws.proofs.Sweeps.{sweep-above, sweep-below}
+use Rattle.laws.proofs.Sweeps.{set-default, sweep-above, sweep-below}
 
 -- an object that is due is told of and free again
 abbrev pub freed : Visit → ℕ → Boxes → Boxes
@@ -67,3 +69,33 @@ module _ (size : ℕ) (t : Turn) (core : Core) (ram : List ℕ) where
           (λ leaves. closes n (subst (λ (x : Controller). t .due x ≡ true) met due) (subst (λ (x : Controller). t .leaves x ≡ true) met leaves) (w .boxes) (go n))
           (λ stays. go n)))
           (λ idle. go n)
+
+-- The same at one object h, of its mailbox and of the notifications so far.
+module _ (h : ℕ) (P : Mailbox → List Notification → Type 0) where
+  abbrev pub Here : Boxes → Type 0
+  Here b = P (mailbox-at (b .mailboxes) h) (b .notifications)
+
+  -- a visit keeps it where it frees the object, and where it tells of another
+  pub record Keeps (v : Visit) : Type 0 where
+    pub own : (m : Mailbox) (ns : List Notification) → P m ns → v .due h m ≡ true → P empty-mailbox (ns ++ (v .note h m ∷ []))
+    pub other : (i : ℕ) (x m : Mailbox) (ns : List Notification) → (i ≡ h → ⊥) → P m ns → P m (ns ++ (v .note i x ∷ []))
+
+  pub visits-keep-here : (v : Visit) → Keeps v → (n : ℕ) (b : Boxes) → Here b → Here (visit-all v n b)
+  visits-keep-here v keeps = visits-keep Here v (λ i b p due. go i b p due (ℕ-discrete i h))
+    where
+      own : (b : Boxes) → Here b → v .due h (mailbox-at (b .mailboxes) h) ≡ true → Here (freed v h b)
+      own b p due =
+          subst (λ (m : Mailbox). P m (freed v h b .notifications)) (sym (set-default (b .mailboxes) h empty-mailbox)) (keeps .own (mailbox-at (b .mailboxes) h) (b .notifications) p due)
+
+      go : (i : ℕ) (b : Boxes) → Here b → v .due i (mailbox-at (b .mailboxes) i) ≡ true → Dec (i ≡ h) → Here (freed v i b)
+      go i b p due (yes e) = subst (λ (j : ℕ). v .due j (mailbox-at (b .mailboxes) j) ≡ true → Here (freed v j b)) (sym e) (own b p) due
+      go i b p due (no d) =
+          subst (λ (m : Mailbox). P m (freed v i b .notifications)) (sym (getD-set-other (b .mailboxes) i h empty-mailbox empty-mailbox (λ e. d (sym e))))
+          (keeps .other i (mailbox-at (b .mailboxes) i) (mailbox-at (b .mailboxes) h) (b .notifications) d p)
+
+  -- so does a turn, if its own notification does
+  pub turns-keep-here : (size : ℕ) (t : Turn) (core : Core) (ram : List ℕ) → ((c : ℕ) (k : Controller) (m : Mailbox) (ns : List Notification) → P m ns → P m (ns ++ (t .note c k ∷ [])))
+      → ((c : ℕ) → Keeps (closing size (core .owners) ram c)) → Here (boxes-of core) → Here (turn-all size t core ram .boxes)
+  turns-keep-here size t core ram told keeps =
+      turns-keep size t core ram Here (λ c k b p. told c k (mailbox-at (b .mailboxes) h) (b .notifications) p)
+      (λ c due leaves. visits-keep-here (closing size (core .owners) ram c) (keeps c) (core .object-count))

@@ -99,7 +99,7 @@
 --
 -- The words of demand 3 (crates/history/specs)
 --   the list                     List of Call                         history runs it; a Step is a call with its outcome
---   its own write                held, own-handle                     an object's Account while a write is open; the handle of the last one
+--   its own write                held, LastFrame                      an object's Account while a write is open; the last one's handle, and if it was sent
 --   mode book                    Reference                            the reference modes of a controller; reference-after feeds it
 pub mod Limits
 pub mod Repeat
