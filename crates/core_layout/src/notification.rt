@@ -1,6 +1,6 @@
 // Notifications, and how they stand on the sheet: four words each, the kind first.
 ghost use mathlib.Core.Path.{_≡_};
-ghost use Prim.Native.Nat.{_+_, _≤_};
+ghost use Prim.Native.Nat.{_+_, _*_, _≤_};
 ghost use lib.ListN.{length};
 ghost use Rattle.rules.specs.Bytes.{splice};
 ghost use Rattle.rules.specs.Notification as rules;
@@ -70,13 +70,21 @@ fn put_words(sheet: &mut [u32], at: usize, words: [u32; WORDS])
     sheet[at + 3] = words[3];
 }
 
+// Writes a notification as number index of the sheet, where it is known that its four words fit.
+pub fn put_in_room(sheet: &mut [u32], index: usize, n: Notification)
+    requires { ⌜ words-each * index + words-each ≤ length (now sheet) ⌝ }
+    ensures { λ _. ⌜ now (sheet .exit) ≡ splice (words-each * index) (rules.words (view n)) (now (sheet .entry)) ⌝ }
+{
+    put_words(sheet, WORDS * index, words(n));
+}
+
 // Writes a notification as number index of the sheet and answers true, where its four words fit. Else the sheet stays as it was,
 // and the answer is false.
 pub fn put(sheet: &mut [u32], index: usize, n: Notification) -> bool
     ensures { λ r. ⌜ Put index (view n) (now (sheet .entry)) (now (sheet .exit)) r ⌝ }
 {
     if index < sheet.len() / WORDS {
-        put_words(sheet, WORDS * index, words(n));
+        put_in_room(sheet, index, n);
         true
     } else {
         false

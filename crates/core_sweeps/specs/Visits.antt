@@ -8,7 +8,8 @@ use Rattle.core_layout.specs.Head.{length-bytes}
 use Rattle.core_sweeps.specs.declared.visit.Visit.{Visit}
 use Rattle.core_sweeps.specs.declared.visit.Visit.the-variants.{Sent, Received, Occupied}
 
--- "confirmed", "indicated", or the closing notice at a stop or bus-off: the size of an object, whether its length has two bytes, the owners and the memory
+-- "confirmed", "indicated", or closed at a stop or bus-off: the size of an object, whether its length has two bytes, the owners and the
+-- memory
 abbrev pub visit-of : Visit → ℕ → Bool → List Owner → List ℕ → rules.Visit
 visit-of Sent size two owners ram = rules.confirmation size ram
 visit-of Received size two owners ram = rules.indication size (length-bytes two) ram

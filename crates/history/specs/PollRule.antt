@@ -83,7 +83,8 @@ module _ (L : Limits) (F : Format) where
   PollRule = (h : ℕ) (before between : List (Call F)) (ram sheet : List ℕ) → StillSent h before between ram → is-accepted (polled h before between ram (MainFunctionWrite sheet)) ≡ true
       → Confirms h before between ram (MainFunctionWrite sheet)
 
-  -- 02, Q-4: the first poll that closes the object reports it, be it a write poll or the "stop or bus-off poll" that "came first"
+  -- 02, Q-4: the first poll that returns 0 and closes the object reports it, be it a write poll or the "stop or bus-off poll" that "came
+  -- first"
   abbrev pub FirstPollRule : Type 0
   FirstPollRule = (h : ℕ) (before between : List (Call F)) (ram : List ℕ) (poll : Call F) → StillSent h before between ram
       → closes-sent (entry-at-poll h before between ram) (effect F poll (polled h before between ram poll)) ≡ true → Confirms h before between ram poll

@@ -62,7 +62,7 @@
 --   read poll                    main-function-read
 --   mode poll                    main-function-mode                   every controller in use has its turn, as in a bus-off poll: turn-all
 --   bus-off poll                 main-function-bus-off
---   closing notice               closing-notification                 a confirmation, tx-confirmation, or a cancellation, tx-cancellation (02, Q-4)
+--   closing notice               closing-notification                 tx-confirmation or tx-cancellation, by the mailbox alone (02, Q-4)
 --   confirmed and freed          confirmation                         of the gone objects
 --   indicated and emptied        indication                           of the full objects; its record is rx-indication, kind 2, received
 --   cancelled and freed          closing                              of a controller's occupied objects; the gone ones are confirmed (02, Q-4)
@@ -99,7 +99,7 @@
 --
 -- The words of demand 3 (crates/history/specs)
 --   the list                     List of Call                         history runs it; a Step is a call with its outcome
---   its own write                held, LastFrame                      an object's Account while a write is open; the last one's handle, and if it was sent
+--   its own write                held, LastFrame                      an object's Account while a write is open; the last one's handle, if sent
 --   mode book                    Reference                            the reference modes of a controller; reference-after feeds it
 pub mod Limits
 pub mod Repeat
