@@ -1,14 +1,11 @@
--- What putting a notification leaves where there is room for it.
-use Prim.Native.Nat.{ℕ, _≤_}
+-- What putting the first notification leaves.
+use Prim.Native.Nat.{ℕ}
 use mathlib.Core.Path.{_≡_, _∙_}
-use mathlib.Core.Bool.{Bool}
 use mathlib.Core.List.{List, [], _∷_}
-use lib.ListN.{length}
-use borrow.Author.Tests.{le-leb}
-use Rattle.rules.specs.Notification.{Notification, sheet-after}
+use Rattle.rules.specs.Bytes.{splice}
+use Rattle.rules.specs.Notification.{Notification, words, sheet-after}
 use Rattle.laws.proofs.Sheets.{all-words-one}
-use Rattle.core_layout.specs.Sheet.{words-each, Put}
 
 -- a notification put first is the only one
-pub put-first : (n : Notification) {before after : List ℕ} {answer : Bool} → Put 0 n before after answer → words-each ≤ length before → after ≡ sheet-after (n ∷ []) before
-put-first n {before} put room = put .written ∙ rw (le-leb words-each (length before) room, all-words-one n)
+pub put-first : (n : Notification) (before : List ℕ) {after : List ℕ} → after ≡ splice 0 (words n) before → after ≡ sheet-after (n ∷ []) before
+put-first n before put = put ∙ rw (all-words-one n)

@@ -4,7 +4,7 @@ ghost use Prim.Native.Nat.{_+_, _*_, _≤_};
 ghost use lib.ListN.{length};
 ghost use Rattle.rules.specs.Bytes.{splice};
 ghost use Rattle.rules.specs.Notification as rules;
-ghost use Rattle.core_layout.specs.Sheet.{words-each, view, Put};
+ghost use Rattle.core_layout.specs.Sheet.{words-each, view};
 
 // What a call reports.
 pub enum Notification {
@@ -70,23 +70,10 @@ fn put_words(sheet: &mut [u32], at: usize, words: [u32; WORDS])
     sheet[at + 3] = words[3];
 }
 
-// Writes a notification as number index of the sheet, where it is known that its four words fit.
-pub fn put_in_room(sheet: &mut [u32], index: usize, n: Notification)
+// Writes a notification as number index of the sheet, which has room for its four words.
+pub fn put(sheet: &mut [u32], index: usize, n: Notification)
     requires { ⌜ words-each * index + words-each ≤ length (now sheet) ⌝ }
     ensures { λ _. ⌜ now (sheet .exit) ≡ splice (words-each * index) (rules.words (view n)) (now (sheet .entry)) ⌝ }
 {
     put_words(sheet, WORDS * index, words(n));
-}
-
-// Writes a notification as number index of the sheet and answers true, where its four words fit. Else the sheet stays as it was,
-// and the answer is false.
-pub fn put(sheet: &mut [u32], index: usize, n: Notification) -> bool
-    ensures { λ r. ⌜ Put index (view n) (now (sheet .entry)) (now (sheet .exit)) r ⌝ }
-{
-    if index < sheet.len() / WORDS {
-        put_in_room(sheet, index, n);
-        true
-    } else {
-        false
-    }
 }

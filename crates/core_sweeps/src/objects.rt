@@ -16,7 +16,7 @@ use crate::visit::Visit;
 use crate::visit::visit_due;
 use crate::visit::visit_note;
 use core_layout::notification::Notification;
-use core_layout::notification::put_in_room;
+use core_layout::notification::put;
 use core_places::at::read_mailbox;
 use core_places::store::free_mailbox;
 
@@ -25,7 +25,7 @@ pub fn tell(n: Notification, told: usize, sheet: &mut [u32]) -> usize
     requires { ⌜ words-each * told + words-each ≤ length (now sheet) ⌝ }
     ensures { λ r. ⌜ Told (view n) told (now (sheet .entry)) (now (sheet .exit)) r ⌝ }
 {
-    put_in_room(sheet, told, n);
+    put(sheet, told, n);
     told + 1
 }
 

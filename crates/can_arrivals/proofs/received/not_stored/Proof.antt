@@ -1,4 +1,4 @@
--- By the case of the pick; a sheet that is long enough takes the one notification.
+-- By the case of the pick; the one notification is the sheet's first.
 use mathlib.Core.Path.{refl, sym}
 use Rattle.rules.specs.Reason.{return-code}
 use Rattle.rules.specs.Notification.{data-lost}
@@ -37,7 +37,7 @@ returns-2 c s ram =
       state-is = refl;
       count-is = refl;
       ram-is = refl;
-      sheet-is = put-first (data-lost (c .before .before .before .before .before .full .given .0 .0)) (c .before .before .put .ensures) (c .before .before .before .before .before .before .before .before .pre);
+      sheet-is = put-first (data-lost (c .before .before .before .before .before .full .given .0 .0)) (c .before .before .before .before .before .before .before .before .args .sheet .now) (c .before .before .put .ensures);
     })
 
 pub not-stored-spec : {M : Type 1} → statement M

@@ -17,7 +17,10 @@ reason-requires : tie.Need-reason-requires
 reason-requires c κs = search needs
 
 put-requires : tie.Need-put-requires
-put-requires c κs = search needs
+put-requires c κs =
+    let start = c .before .before .before .before in
+    let error : is-development-error (reason-of (start .args .r)) ≡ true = rw (sym (c .before .before .reason .ensures)) (lt-ltb _ _ (c .before .if1 .taken)) in
+    start .pre .has-room error
 
 same-length : tie.Need-same-length
 same-length c = search needs
@@ -31,7 +34,7 @@ returns c =
     (record {
       count-is = refl;
       sheet-is =
-          put-first (development-error (start .args .service) (number .result)) (c .before .before .put .ensures) (start .pre .has-room error)
+          put-first (development-error (start .args .service) (number .result)) (start .args .sheet .now) (c .before .before .put .ensures)
           ∙ ap (λ (e : ℕ). sheet-after (development-error (start .args .service) e ∷ []) (start .args .sheet .now)) (number .ensures);
     })
 

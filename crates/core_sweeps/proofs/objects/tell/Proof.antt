@@ -4,8 +4,8 @@ use borrow.Author.Needs.{needs}
 use Rattle.core_sweeps.proofs.objects.tell.Statement.{statement}
 use Rattle.core_sweeps.proofs.objects.tell.Tie as tie
 
-put-in-room-requires : tie.Need-put-in-room-requires
-put-in-room-requires c κs = search needs
+put-requires : tie.Need-put-requires
+put-requires c κs = search needs
 
 add-result : tie.Need-add-result
 add-result c = search needs
@@ -14,7 +14,7 @@ same-length : tie.Need-same-length
 same-length c = search needs
 
 returns : tie.Need-returns
-returns c = record { count-is = refl; sheet-is = c .before .before .put-in-room .ensures }
+returns c = record { count-is = refl; sheet-is = c .before .before .put .ensures }
 
 pub tell-spec : {M : Type 1} → statement M
-tell-spec = tie.close (tie.spec put-in-room-requires add-result same-length returns)
+tell-spec = tie.close (tie.spec put-requires add-result same-length returns)
