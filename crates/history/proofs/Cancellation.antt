@@ -23,7 +23,7 @@ use Rattle.history.specs.LastFrame.{LastFrame, no-frame, frame-after}
 use Rattle.history.specs.Cancellation.{UnsentCancelled, OnlyUnsentCancelled, CancellationRule}
 use Rattle.laws.proofs.Tests.{cond-both, right, clash}
 use Rattle.history.proofs.Judged.{judgement, received-cases, performed-cases}
-use Rattle.history.proofs.Notices.{quiet-error, still-none, none-cancelling}
+use Rattle.history.proofs.Notices.{quiet-error, still-none}
 use Rattle.history.proofs.Sweeps.{Here, Keeps, visits-keep-here, turns-keep-here}
 use Rattle.history.proofs.Objects.{Matches, Follows, follows-on, follows-first}
 use Rattle.history.proofs.LastFrame.{Owned, owned-after}
@@ -108,7 +108,7 @@ module _ (L : Limits) (F : Format) (h : ℕ) where
 
     pub performed-uncancelled : (call : Call F) → Uncancelled (effect F call (performed L F call s ram)) (performed L F call s ram)
     performed-uncancelled call =
-        performed-cases L F Uncancelled call s ram (λ refused sent. none-cancelling h _ (quiet-error h (service-number F call) (judgement L F call s ram .reason))) (λ r. done-uncancelled call)
+        performed-cases L F Uncancelled call s ram (λ refused sent. quiet-error (cancels h) (λ service error. refl) (service-number F call) (judgement L F call s ram .reason)) (λ r. done-uncancelled call)
 
   -- the mailbox of an object whose last frame was sent is gone, or free
   sent-gone : (m : Mailbox) (bytes : List ℕ) (a : Account) (x : LastFrame) → Matches m bytes a → Owned L F h a x → x .sent ≡ true → Gone m

@@ -11,15 +11,15 @@ use Rattle.rules.specs.Core.{Mailbox}
 use Rattle.rules.specs.Polls.{closing-notification}
 use Rattle.history.specs.Account.{Account, after-notification, after-notifications}
 use Rattle.history.specs.Demand1.{error-record}
-use Rattle.history.specs.Notices.{one-of, closes, cancels, closed-in, cancelled-in}
+use Rattle.history.specs.Notices.{one-of, closes, closed-in}
 use Rattle.laws.proofs.Tests.{cond-both, neither}
 
--- a refusal closes no object
-pub quiet-error : (h : ℕ) (service : Option ℕ) (r : ℕ) → closed-in h (error-record service r) ≡ false
+-- a refusal's record is not such, where no development error is
+pub quiet-error : (such : Notification → Bool) → ((service error : ℕ) → such (development-error service error) ≡ false) → (service : Option ℕ) (r : ℕ) → one-of such (error-record service r) ≡ false
 unfolding one-of
-quiet-error h none r = refl
-quiet-error h (some service) r =
-    cond-both (λ (ns : List Notification). closed-in h ns ≡ false) (is-development-error r) (development-error service r ∷ []) [] (λ t. refl) (λ t. refl)
+quiet-error such quiet none r = refl
+quiet-error such quiet (some service) r =
+    cond-both (λ (ns : List Notification). one-of such ns ≡ false) (is-development-error r) (development-error service r ∷ []) [] (λ t. rw (quiet service r)) (λ t. refl)
 
 -- one notification more, which is not such either
 pub still-none : (such : Notification → Bool) (ns : List Notification) (n : Notification) → one-of such ns ≡ false → such n ≡ false → one-of such (ns ++ (n ∷ [])) ≡ false
@@ -33,23 +33,6 @@ still-none such (m ∷ ns) n e f =
 pub closes-named : (h i handle : ℕ) (m : Mailbox) → closes h (closing-notification m i handle) ≡ eqb i h
 closes-named h i handle m =
     cond-both (λ (n : Notification). closes h n ≡ eqb i h) (m .tx-done) (tx-confirmation i handle) (tx-cancellation i handle) (λ t. refl) (λ t. refl)
-
--- what does not close an object does not cancel it
-not-cancelling : (h : ℕ) (n : Notification) → closes h n ≡ false → cancels h n ≡ false
-not-cancelling h (tx-confirmation i handle) e = refl
-not-cancelling h (tx-cancellation i handle) e = e
-not-cancelling h (rx-indication i identifier len) e = refl
-not-cancelling h (mode-indication c m) e = refl
-not-cancelling h (bus-off-indication c) e = refl
-not-cancelling h (development-error service error) e = refl
-not-cancelling h (data-lost i) e = refl
-
-pub none-cancelling : (h : ℕ) (ns : List Notification) → closed-in h ns ≡ false → cancelled-in h ns ≡ false
-unfolding one-of
-none-cancelling h [] e = refl
-none-cancelling h (n ∷ ns) e =
-    let none = neither (closes h n) (closed-in h ns) e in
-    rw (not-cancelling h n (none .0)) (none-cancelling h ns (none .1))
 
 pub unclosed-one : (h : ℕ) (n : Notification) (x : Account) → closes h n ≡ false → after-notification h x n ≡ x
 unclosed-one h (tx-confirmation i handle) x e = rw e

@@ -415,7 +415,7 @@ module _ (L : Limits) (F : Format) (h : ℕ) where
     pub performed-agrees : Lawful L F → (call : Call F) → Agrees (effect F call (performed L F call s ram)) (performed L F call s ram)
     performed-agrees lawful call =
         performed-cases L F Agrees call s ram
-        (λ refused. kept nothing (denied L F call s ram) refl refl refl (unclosed h _ a (quiet-error h (service-number F call) (judgement L F call s ram .reason))))
+        (λ refused. kept nothing (denied L F call s ram) refl refl refl (unclosed h _ a (quiet-error (closes h) (λ service error. refl) (service-number F call) (judgement L F call s ram .reason))))
         (done-agrees lawful call)
 
   -- the configuration in force is the state's

@@ -56,4 +56,4 @@ module _ (L : Limits) (F : Format) (h : ℕ) (s : State F) (ram : List ℕ) (c :
   done-quiet (FrameArrived sheet k frame) n = received-cases L F s ram k frame (λ (o : Outcome (State F)). closed-in h (o .notifications) ≡ false) refl (λ i. refl) (λ i e. refl)
 
   pub performed-quiet : (call : Call F) → Quiet (effect F call (performed L F call s ram)) (performed L F call s ram)
-  performed-quiet call = performed-cases L F Quiet call s ram (λ refused n. quiet-error h (service-number F call) (judgement L F call s ram .reason)) (λ r. done-quiet call)
+  performed-quiet call = performed-cases L F Quiet call s ram (λ refused n. quiet-error (closes h) (λ service error. refl) (service-number F call) (judgement L F call s ram .reason)) (λ r. done-quiet call)
