@@ -1,6 +1,7 @@
 //! The bench: the driver state, its own memory and the lengths it lends.
 
 use crate::draft::Draft;
+use crate::error_state::ErrorState;
 use crate::events::Arrival;
 use crate::limits::{MEMORY_BYTES, RECORD_WORDS, SHEET_WORDS};
 use crate::mailbox;
@@ -14,6 +15,8 @@ use crate::state::State;
 pub enum Answer {
     None,
     Mode(u32),
+    ErrorState(u32),
+    ErrorCount(u32),
     Object(u32),
     Arrival(Arrival),
     /// Who sends next, if anyone.
@@ -165,6 +168,20 @@ pub fn play_call<'a>(
             let answer = outcome.result.map_or(Answer::None, Answer::Arrival);
             answered("arrived", outcome, answer, sheet)
         }
+        Call::Errors { controller, counts } => {
+            plain("errors", state.error_counts(controller, counts, sheet), sheet)
+        }
+        Call::ErrorState { controller } => {
+            let outcome = state.error_state(controller, sheet);
+            let number = outcome.result.map_or(0, ErrorState::number);
+            answered("errorstate", outcome, Answer::ErrorState(number), sheet)
+        }
+        Call::ReceiveErrors { controller } => {
+            counted("rxerrors", state.receive_errors(controller, sheet), sheet)
+        }
+        Call::TransmitErrors { controller } => {
+            counted("txerrors", state.transmit_errors(controller, sheet), sheet)
+        }
         Call::Next { controller } => {
             let outcome = state.next_to_send(controller, memory);
             let answer = outcome.result.map_or(Answer::None, Answer::Next);
@@ -198,6 +215,12 @@ fn answered<'a, T>(
 ) -> Played<'a> {
     let records = &sheet[..outcome.records * RECORD_WORDS];
     Played::Call { name, code: outcome.code(), reason: outcome.reason(), answer, records }
+}
+
+/// A call that answers an error count, 0 with a no.
+fn counted<'a>(name: &'static str, outcome: Outcome<u32>, sheet: &'a [u32]) -> Played<'a> {
+    let count = outcome.result.unwrap_or(0);
+    answered(name, outcome, Answer::ErrorCount(count), sheet)
 }
 
 /// A call that answers code and reason only.

@@ -1,6 +1,7 @@
-//! The three bench events ("Bench events"). An event writes no record of kind 5.
+//! The bench events ("Bench events"; 02, Q-5). An event writes no record of kind 5.
 
 use crate::config::{Kind, ObjectConfig};
+use crate::error_state::{ErrorCounts, ErrorState};
 use crate::filter;
 use crate::identifier::Identifier;
 use crate::length;
@@ -54,6 +55,42 @@ impl State {
         let controller = self.check_on_bus(controller)?;
         self.controllers[controller].off_bus = true;
         Ok(())
+    }
+
+    /// Error counts: sets both, and the off-bus mark where they lead off the bus.
+    /// Entering passive from active writes a record. Takes the sheet only.
+    pub fn error_counts(
+        &mut self,
+        controller: u32,
+        counts: ErrorCounts,
+        sheet: &mut [u32],
+    ) -> Outcome<()> {
+        let controller = match self.judge_counts(controller, counts, sheet) {
+            Ok(controller) => controller,
+            Err(reason) => return Outcome::silent(Err(reason)),
+        };
+        let place = &mut self.controllers[controller];
+        let before = place.error_state();
+        place.errors = counts;
+        place.off_bus = counts.state() == ErrorState::BusOff;
+        let mut notices = Notices::on(sheet);
+        if (before, place.error_state()) == (ErrorState::Active, ErrorState::Passive) {
+            notices.push(Notice::ErrorPassive { controller, counts });
+        }
+        Outcome { result: Ok(()), records: notices.count() }
+    }
+
+    /// 41, 32, then 5, 4, 35, 37, 43; else the controller as a place number.
+    fn judge_counts(
+        &self,
+        controller: u32,
+        counts: ErrorCounts,
+        sheet: &[u32],
+    ) -> Result<usize, Reason> {
+        self.check_sound()?;
+        check_sheet(sheet)?;
+        let controller = self.check_on_bus(controller)?;
+        counts.can_be_counted().then_some(controller).ok_or(Reason::ErrorCount)
     }
 
     /// Arrived: the frame is stored, unwanted or lost.

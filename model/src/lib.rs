@@ -8,6 +8,7 @@ pub mod bench;
 pub mod compare;
 pub mod config;
 pub mod draft;
+pub mod error_state;
 pub mod events;
 pub mod filter;
 pub mod hostile;

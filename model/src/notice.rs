@@ -1,5 +1,6 @@
 //! The notice sheet and its records ("Notice sheet", "Records").
 
+use crate::error_state::ErrorCounts;
 use crate::limits::RECORD_WORDS;
 use crate::mode::Mode;
 use crate::outcome::{Reason, Service};
@@ -14,6 +15,7 @@ pub enum Notice {
     DevelopmentError { service: Service, error: Reason },
     DataLost { object: usize },
     Cancelled { object: usize, handle: u16 },
+    ErrorPassive { controller: usize, counts: ErrorCounts },
 }
 
 impl Notice {
@@ -29,6 +31,10 @@ impl Notice {
             Notice::DevelopmentError { service, error } => [5, service.number(), error.number(), 0],
             Notice::DataLost { object } => [6, object as u32, 1, 0],
             Notice::Cancelled { object, handle } => [7, object as u32, handle.into(), 0],
+            Notice::ErrorPassive { controller, counts } => {
+                let told = counts.told();
+                [8, controller as u32, told.transmit, told.receive]
+            }
         }
     }
 }

@@ -33,6 +33,8 @@ pub enum Reason {
     WireLength = 40,
     /// State not sound.
     NotSound = 41,
+    /// Error count above 65,535.
+    ErrorCount = 43,
 }
 
 impl Reason {
@@ -63,7 +65,10 @@ pub enum Service {
     SetControllerMode = 0x03,
     Write = 0x06,
     DeInit = 0x10,
+    GetControllerErrorState = 0x11,
     GetControllerMode = 0x12,
+    GetControllerRxErrorCounter = 0x30,
+    GetControllerTxErrorCounter = 0x31,
 }
 
 impl Service {

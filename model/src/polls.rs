@@ -1,4 +1,4 @@
-//! The four polls ("Services and polls"; 02, Q-4).
+//! The four polls ("Services and polls"; 02, Q-4 and Q-5).
 //!
 //! A poll has no reason beyond 41, 32 and 33. Before Init it does nothing and
 //! answers 0: nothing is configured, so there is nothing to go through.
@@ -49,8 +49,7 @@ impl State {
                 if place.mode == Mode::Started && mode != Mode::Started {
                     state.close_all(controller, memory, notices);
                 }
-                state.controllers[controller].mode = mode;
-                state.controllers[controller].request = None;
+                state.controllers[controller].enter(mode);
                 notices.push(Notice::Mode { controller, mode });
             }
         })
@@ -58,7 +57,8 @@ impl State {
 
     /// Bus-off poll: for each marked controller, rising: its occupied objects
     /// are closed and freed, the bus-off record follows, the mode becomes
-    /// STOPPED, mark and waiting request are cleared; no mode record.
+    /// STOPPED, mark and waiting request are cleared, the second mark is set; no
+    /// mode record.
     pub fn poll_bus_off(&mut self, sheet: &mut [u32], memory: &[u8]) -> Outcome<()> {
         self.poll(sheet, memory, |state, notices| {
             for controller in 0..state.config.controllers() {
@@ -67,10 +67,7 @@ impl State {
                 }
                 state.close_all(controller, memory, notices);
                 notices.push(Notice::BusOff { controller });
-                let place = &mut state.controllers[controller];
-                place.mode = Mode::Stopped;
-                place.off_bus = false;
-                place.request = None;
+                state.controllers[controller].leave_bus();
             }
         })
     }

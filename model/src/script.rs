@@ -3,6 +3,7 @@
 use std::fmt;
 
 use crate::draft::{self, DraftObject};
+use crate::error_state::ErrorCounts;
 use crate::identifier::Identifier;
 
 /// The longest sheet a script may lend, in words.
@@ -53,6 +54,10 @@ pub enum Call<'a> {
     Sent { object: u32 },
     BusOff { controller: u32 },
     Arrived { controller: u32, identifier: Identifier, data: &'a [u8] },
+    Errors { controller: u32, counts: ErrorCounts },
+    ErrorState { controller: u32 },
+    ReceiveErrors { controller: u32 },
+    TransmitErrors { controller: u32 },
     Next { controller: u32 },
     Data { object: u32 },
 }
@@ -173,9 +178,10 @@ pub fn words(line: &[u8]) -> impl Iterator<Item = &[u8]> + Clone {
 fn arguments_of(name: &[u8]) -> Option<Arguments> {
     let (single, last) = match name {
         b"deinit" | b"state" => (0, Last::Nothing),
-        b"get" | b"poll" | b"sent" | b"busoff" | b"next" | b"data" | b"sheet" | b"memory"
-        | b"show" | b"controllers" => (1, Last::Nothing),
+        b"get" | b"errorstate" | b"rxerrors" | b"txerrors" | b"poll" | b"sent" | b"busoff"
+        | b"next" | b"data" | b"sheet" | b"memory" | b"show" | b"controllers" => (1, Last::Nothing),
         b"set" | b"config" => (2, Last::Nothing),
+        b"errors" => (3, Last::Nothing),
         b"init" => (0, Last::BytesOrNothing),
         b"arrived" => (2, Last::Bytes),
         b"write" => (3, Last::Bytes),
@@ -234,6 +240,14 @@ fn call<'a, 'w>(
             identifier: identifier(second)?,
             data: hex_bytes(rest, bytes)?,
         },
+        b"errors" => {
+            let controller = number(first)?;
+            let counts = ErrorCounts { transmit: number(second)?, receive: number(third)? };
+            Call::Errors { controller, counts }
+        }
+        b"errorstate" => Call::ErrorState { controller: number(first)? },
+        b"rxerrors" => Call::ReceiveErrors { controller: number(first)? },
+        b"txerrors" => Call::TransmitErrors { controller: number(first)? },
         b"next" => Call::Next { controller: number(first)? },
         b"data" => Call::Data { object: number(first)? },
         _ => return Err(Trouble::UnknownCommand),
@@ -430,6 +444,16 @@ mod tests {
             "arrived 0 0x120 -",
             Call::Arrived { controller: 0, identifier: Identifier(0x120), data: &[] },
         );
+        reads(
+            "errors 0x1 65536 0xFFFFFFFF",
+            Call::Errors {
+                controller: 1,
+                counts: ErrorCounts { transmit: 65_536, receive: u32::MAX },
+            },
+        );
+        reads("errorstate 0x2", Call::ErrorState { controller: 2 });
+        reads("rxerrors 007", Call::ReceiveErrors { controller: 7 });
+        reads("txerrors 4294967295", Call::TransmitErrors { controller: u32::MAX });
         reads("next 0x3", Call::Next { controller: 3 });
         reads("data 1", Call::Data { object: 1 });
         reads_command("sheet 4096", Command::Sheet { words: 4096 });
@@ -470,6 +494,16 @@ mod tests {
         assert_eq!(trouble("poll Write"), Some(Trouble::UnknownPoll));
         assert_eq!(trouble("config 1"), Some(Trouble::WordMissing));
         assert_eq!(trouble("config 1 x x"), Some(Trouble::WordTooMany));
+        assert_eq!(trouble("errors x y"), Some(Trouble::WordMissing));
+        assert_eq!(trouble("errors x y z 0"), Some(Trouble::WordTooMany));
+        for name in ["errorstate", "rxerrors", "txerrors"] {
+            assert_eq!(trouble(name), Some(Trouble::WordMissing));
+            assert_eq!(trouble(&format!("{name} x y")), Some(Trouble::WordTooMany));
+            assert_eq!(trouble(&format!("{name} x")), Some(Trouble::NotANumber));
+            assert_eq!(trouble(&format!("{name} 4294967296")), Some(Trouble::NumberTooLarge));
+        }
+        assert_eq!(trouble("error 0 0 0"), Some(Trouble::UnknownCommand));
+        assert_eq!(trouble("errorState 0"), Some(Trouble::UnknownCommand));
         assert_eq!(trouble("next"), Some(Trouble::WordMissing));
         assert_eq!(trouble("next 0 x"), Some(Trouble::WordTooMany));
         assert_eq!(trouble("state\r"), Some(Trouble::UnknownCommand));
@@ -566,5 +600,10 @@ mod tests {
         assert_eq!(trouble("write 0 70000 g 0"), Some(Trouble::HandleTooLarge));
         assert_eq!(trouble("write 0 0 g 0"), Some(Trouble::NotAnIdentifier));
         assert_eq!(trouble("write 0 0 0 0"), Some(Trouble::OddDigits));
+        assert_eq!(trouble("errors x 4294967296 y"), Some(Trouble::NotANumber));
+        assert_eq!(trouble("errors 0 4294967296 y"), Some(Trouble::NumberTooLarge));
+        assert_eq!(trouble("errors 0 0 y"), Some(Trouble::NotANumber));
+        assert_eq!(trouble("errors 0 0 -"), Some(Trouble::NotANumber));
+        assert_eq!(trouble("errors 0 0 4294967296"), Some(Trouble::NumberTooLarge));
     }
 }

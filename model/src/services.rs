@@ -1,16 +1,17 @@
-//! The five services ("Services and polls", "Reasons for a no").
+//! The services ("Services and polls", "Reasons for a no"; 02, Q-5).
 //!
 //! Each public service runs its checks in the paper's order inside a `try_`
 //! function and then, with a no of the standard's, writes one record of kind 5.
 
 use crate::config::Config;
+use crate::error_state::ErrorState;
 use crate::identifier::Identifier;
 use crate::length;
 use crate::mailbox::Frame;
 use crate::mode::Mode;
 use crate::notice::{Notice, Notices};
 use crate::outcome::{Outcome, Reason, Service};
-use crate::state::{check_memory, check_sheet, State};
+use crate::state::{check_memory, check_sheet, ControllerPlace, State};
 
 impl State {
     /// Init (0x00): the configuration is accepted, memory all zero, no record.
@@ -75,17 +76,46 @@ impl State {
 
     /// GetControllerMode (0x12): the mode (whoever prints a no prints 0).
     pub fn get_mode(&self, controller: u32, sheet: &mut [u32]) -> Outcome<Mode> {
-        let result = self.try_get_mode(controller, sheet);
-        reported(Service::GetControllerMode, result, sheet)
+        self.ask(Service::GetControllerMode, controller, sheet, |place| place.mode)
+    }
+
+    /// Error state (0x11): active, passive or bus-off.
+    pub fn error_state(&self, controller: u32, sheet: &mut [u32]) -> Outcome<ErrorState> {
+        let service = Service::GetControllerErrorState;
+        self.ask(service, controller, sheet, ControllerPlace::error_state)
+    }
+
+    /// Receive error count (0x30), told up to 255.
+    pub fn receive_errors(&self, controller: u32, sheet: &mut [u32]) -> Outcome<u32> {
+        let service = Service::GetControllerRxErrorCounter;
+        self.ask(service, controller, sheet, |place| place.errors.told().receive)
+    }
+
+    /// Transmit error count (0x31), told up to 255.
+    pub fn transmit_errors(&self, controller: u32, sheet: &mut [u32]) -> Outcome<u32> {
+        let service = Service::GetControllerTxErrorCounter;
+        self.ask(service, controller, sheet, |place| place.errors.told().transmit)
+    }
+
+    /// A question of a controller: all of them have the same checks.
+    fn ask<T>(
+        &self,
+        service: Service,
+        controller: u32,
+        sheet: &mut [u32],
+        question: impl FnOnce(&ControllerPlace) -> T,
+    ) -> Outcome<T> {
+        let result = self.try_ask(controller, sheet).map(question);
+        reported(service, result, sheet)
     }
 
     /// 41, 32, then 5, 4.
-    fn try_get_mode(&self, controller: u32, sheet: &[u32]) -> Result<Mode, Reason> {
+    fn try_ask(&self, controller: u32, sheet: &[u32]) -> Result<&ControllerPlace, Reason> {
         self.check_sound()?;
         check_sheet(sheet)?;
         self.check_initialised()?;
         let controller = self.check_controller(controller)?;
-        Ok(self.controllers[controller].mode)
+        Ok(&self.controllers[controller])
     }
 
     /// Write (0x06): the pool's lowest free member is occupied, its 72 bytes are

@@ -1,6 +1,7 @@
 //! The driver state, when it is sound, and the checks all calls share.
 
 use crate::config::{Config, Kind, ObjectConfig};
+use crate::error_state::{ErrorCounts, ErrorState};
 use crate::limits::{CONTROLLERS, MEMORY_BYTES, OBJECTS, SHEET_WORDS};
 use crate::mode::Mode;
 use crate::outcome::Reason;
@@ -13,6 +14,31 @@ pub struct ControllerPlace {
     pub request: Option<Mode>,
     /// The off-bus mark.
     pub off_bus: bool,
+    /// The second mark: a bus-off poll took it off the bus, and it was not STARTED since.
+    pub recovering: bool,
+    pub errors: ErrorCounts,
+}
+
+impl ControllerPlace {
+    /// Carries out a request. Entering STARTED clears the second mark and sets both
+    /// counts to zero; every other move keeps all three.
+    pub fn enter(&mut self, mode: Mode) {
+        self.mode = mode;
+        self.request = None;
+        if mode == Mode::Started {
+            self.recovering = false;
+            self.errors = ErrorCounts::default();
+        }
+    }
+
+    /// What the bus-off poll does to a marked controller: the second mark takes the
+    /// place of the first, and the counts stay.
+    pub fn leave_bus(&mut self) {
+        self.mode = Mode::Stopped;
+        self.request = None;
+        self.off_bus = false;
+        self.recovering = true;
+    }
 }
 
 /// What is remembered per object.
@@ -65,7 +91,8 @@ impl State {
     }
 
     /// Configured: mode 1 to 3, a waiting request permitted from the present
-    /// mode, off-bus only if STARTED. Unused: at rest.
+    /// mode, off-bus only if STARTED, the second mark only if not, counts up to
+    /// 65,535 and a transmit count above 255 only with a mark. Unused: at rest.
     fn controller_is_sound(&self, controller: usize) -> bool {
         let place = &self.controllers[controller];
         if controller >= self.config.controllers() {
@@ -74,6 +101,9 @@ impl State {
         place.mode != Mode::Uninit
             && place.request.is_none_or(|wish| place.mode.permits(wish))
             && (!place.off_bus || place.mode == Mode::Started)
+            && (!place.recovering || place.mode != Mode::Started)
+            && place.errors.can_be_counted()
+            && (place.errors.state() != ErrorState::BusOff || place.off_bus || place.recovering)
     }
 
     /// Occupied only on a sending object of a STARTED controller, gone only
@@ -235,6 +265,84 @@ mod tests {
             started(s);
             s.controllers[0].request = Some(Mode::Started);
         }));
+    }
+
+    #[test]
+    fn marks_and_counts() {
+        /// Whether controller 0 of the state is sound in a mode, with these marks and counts.
+        fn holding(mode: Mode, marks: (bool, bool), transmit: u32, receive: u32) -> bool {
+            sound(|s| {
+                s.controllers[0] = ControllerPlace {
+                    mode,
+                    request: None,
+                    off_bus: marks.0,
+                    recovering: marks.1,
+                    errors: ErrorCounts { transmit, receive },
+                }
+            })
+        }
+        let (none, off, second) = ((false, false), (true, false), (false, true));
+        for mode in [Mode::Started, Mode::Stopped, Mode::Sleep] {
+            let started = mode == Mode::Started;
+            assert_eq!(holding(mode, off, 0, 0), started);
+            assert_eq!(holding(mode, second, 0, 0), !started);
+            assert!(!holding(mode, (true, true), 0, 0));
+            assert!(holding(mode, none, 255, 65_535));
+            assert!(!holding(mode, none, 256, 0));
+            assert!(!holding(mode, none, 65_535, 0));
+            assert!(!holding(mode, none, 0, 65_536));
+            let marked = if started { off } else { second };
+            assert!(holding(mode, marked, 256, 0));
+            assert!(holding(mode, marked, 65_535, 65_535));
+            assert!(!holding(mode, marked, 65_536, 0));
+            assert!(!holding(mode, marked, 0, 65_536));
+        }
+    }
+
+    #[test]
+    fn marks_and_counts_of_unused_places() {
+        for change in [
+            |place: &mut ControllerPlace| place.recovering = true,
+            |place: &mut ControllerPlace| place.errors.transmit = 1,
+            |place: &mut ControllerPlace| place.errors.receive = 1,
+        ] {
+            assert!(sound(|s| {
+                s.controllers[1].mode = Mode::Sleep;
+                change(&mut s.controllers[1]);
+            }));
+            assert!(!sound(|s| change(&mut s.controllers[2])));
+            let mut rest = State::default();
+            change(&mut rest.controllers[0]);
+            assert!(!rest.is_sound());
+        }
+    }
+
+    #[test]
+    fn entering_and_leaving() {
+        let errors = ErrorCounts { transmit: 300, receive: 200 };
+        let mut place = ControllerPlace {
+            mode: Mode::Started,
+            request: Some(Mode::Stopped),
+            off_bus: true,
+            recovering: false,
+            errors,
+        };
+        place.leave_bus();
+        let stopped = ControllerPlace {
+            mode: Mode::Stopped,
+            recovering: true,
+            errors,
+            ..ControllerPlace::default()
+        };
+        assert_eq!(place, stopped);
+        for mode in [Mode::Stopped, Mode::Sleep] {
+            place.request = Some(mode);
+            place.enter(mode);
+            assert_eq!(place, ControllerPlace { mode, ..stopped });
+        }
+        place.request = Some(Mode::Started);
+        place.enter(Mode::Started);
+        assert_eq!(place, ControllerPlace { mode: Mode::Started, ..ControllerPlace::default() });
     }
 
     #[test]

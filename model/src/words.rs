@@ -3,6 +3,7 @@
 use std::fmt::Display;
 
 use crate::bench::{Answer, Played};
+use crate::error_state::ErrorCounts;
 use crate::events::Arrival;
 use crate::limits::RECORD_WORDS;
 use crate::mode::Mode;
@@ -61,9 +62,11 @@ fn head(out: &mut Vec<u8>, line: u64, name: &str) {
 pub(crate) fn print_answer(out: &mut Vec<u8>, answer: Answer) {
     match answer {
         Answer::None => out.push(b'-'),
-        Answer::Mode(number) | Answer::Object(number) | Answer::Next(Some(number)) => {
-            print_number(out, number.into());
-        }
+        Answer::Mode(number)
+        | Answer::ErrorState(number)
+        | Answer::ErrorCount(number)
+        | Answer::Object(number)
+        | Answer::Next(Some(number)) => print_number(out, number.into()),
         Answer::Next(None) => out.extend_from_slice(b"none"),
         Answer::Arrival(Arrival::Stored(object)) => {
             out.extend_from_slice(b"stored:");
@@ -90,14 +93,17 @@ fn print_state(out: &mut Vec<u8>, state: &State) {
     field(out, objects as u32);
     for place in &state.controllers[..controllers] {
         let request = place.request.map_or(0, Mode::number);
-        triple(out, " c:", [place.mode.number(), request, place.off_bus.into()]);
+        let marks = [place.off_bus, place.recovering].map(u32::from);
+        let ErrorCounts { transmit, receive } = place.errors;
+        let numbers = [place.mode.number(), request, marks[0], marks[1], transmit, receive];
+        print_place(out, " c:", &numbers);
     }
     for place in &state.objects[..objects] {
-        triple(out, " o:", [place.occupied.into(), place.gone.into(), place.full.into()]);
+        print_place(out, " o:", &[place.occupied, place.gone, place.full].map(u32::from));
     }
 }
 
-fn triple(out: &mut Vec<u8>, name: &str, numbers: [u32; 3]) {
+fn print_place(out: &mut Vec<u8>, name: &str, numbers: &[u32]) {
     out.extend_from_slice(name.as_bytes());
     for (place, &number) in numbers.iter().enumerate() {
         if place > 0 {

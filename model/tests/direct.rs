@@ -1,6 +1,8 @@
 //! Rules that a script cannot show, or not in so few lines: any first memory, any
-//! sheet content, states that are not sound, and every mixture of objects to close.
+//! sheet content, states that are not sound, every mixture of objects to close, and
+//! every step from one pair of error counts to another.
 
+use pump_model::error_state::ErrorCounts;
 use pump_model::identifier::Identifier;
 use pump_model::mode::Mode;
 use pump_model::outcome::{Outcome, Reason};
@@ -166,6 +168,80 @@ fn an_object_is_closed_by_its_own_gone_mark_alone() {
     }
 }
 
+/// Counts on both sides of each limit.
+const COUNTS: [u32; 10] = [0, 1, 127, 128, 129, 254, 255, 256, 65_534, 65_535];
+
+/// The error state by the counts alone, as 02 says it.
+fn state_of(transmit: u32, receive: u32) -> u32 {
+    match (transmit, receive) {
+        (256.., _) => 2,
+        (128.., _) | (_, 128..) => 1,
+        _ => 0,
+    }
+}
+
+/// Every pair of counts.
+fn pairs() -> impl Iterator<Item = (u32, u32)> {
+    COUNTS.into_iter().flat_map(|transmit| COUNTS.map(|receive| (transmit, receive)))
+}
+
+#[test]
+fn every_step_from_counts_to_counts() {
+    let (started, _, memory) = started();
+    for (transmit, receive) in pairs().filter(|&(transmit, _)| transmit < 256) {
+        let mut before = started.clone();
+        before.controllers[0].errors = ErrorCounts { transmit, receive };
+        let old = state_of(transmit, receive);
+        for (transmit, receive) in pairs() {
+            let new = state_of(transmit, receive);
+            let (mut state, mut sheet) = (before.clone(), vec![0xABCD_EF01; 150]);
+            let counts = ErrorCounts { transmit, receive };
+            let outcome = state.error_counts(0, counts, &mut sheet);
+            let told = usize::from((old, new) == (0, 1));
+            assert_eq!(outcome, Outcome { result: Ok(()), records: told });
+            let (record, rest) = sheet.split_at(4 * told);
+            assert!(rest.iter().all(|&word| word == 0xABCD_EF01));
+            assert!(told == 0 || record == [8, 0, transmit.min(255), receive.min(255)]);
+            let mut expected = before.clone();
+            expected.controllers[0].errors = counts;
+            expected.controllers[0].off_bus = new == 2;
+            assert_eq!(state, expected);
+            asked_until_started(state, new, counts, &memory);
+        }
+    }
+}
+
+/// What the three services answer now, and after a bus-off or a stop, and after the next start.
+fn asked_until_started(mut state: State, error_state: u32, counts: ErrorCounts, memory: &[u8]) {
+    let mut sheet = vec![0; 144];
+    let told = (counts.receive.min(255), counts.transmit.min(255));
+    let mut ask = |state: &State| {
+        let number = state.error_state(0, &mut sheet).result.expect("an answer").number();
+        let receive = state.receive_errors(0, &mut sheet).result.expect("an answer");
+        let transmit = state.transmit_errors(0, &mut sheet).result.expect("an answer");
+        (number, (receive, transmit))
+    };
+    assert_eq!(ask(&state), (error_state, told));
+    let mut sheet = vec![0; 144];
+    if error_state == 2 {
+        assert_eq!(state.poll_bus_off(&mut sheet, memory).records, 1);
+    } else {
+        assert_eq!(state.set_mode(0, 2, &mut sheet).code(), 0);
+        assert_eq!(state.poll_mode(&mut sheet, memory).code(), 0);
+    }
+    for mode in [2, 3, 3, 2, 1] {
+        assert!(state.is_sound());
+        assert_eq!(state.controllers[0].recovering, error_state == 2);
+        assert_eq!(state.controllers[0].errors, counts);
+        assert_eq!(ask(&state), (error_state, told));
+        assert_eq!(state.set_mode(0, mode, &mut sheet).code(), 0);
+        assert_eq!(ask(&state), (error_state, told));
+        assert_eq!(state.poll_mode(&mut sheet, memory).code(), 0);
+    }
+    assert_eq!(ask(&state), (0, (0, 0)));
+    assert_eq!(state.controllers[0].mode, Mode::Started);
+}
+
 #[test]
 fn who_sends_next_is_read_from_the_memory_lent_to_that_call() {
     let (mut state, mut sheet, mut memory) = (State::default(), vec![0; 144], vec![0; 2304]);
@@ -212,8 +288,14 @@ fn a_state_that_is_not_sound_is_41_everywhere() {
     judge(state.poll_bus_off(sheet, &memory));
     judge(state.sent(9));
     judge(state.bus_off(9));
+    judge(state.error_counts(9, ErrorCounts { transmit: 65_536, receive: 0 }, sheet));
     let got = state.get_mode(9, sheet);
     not_sound(got.code(), got.reason(), got.records);
+    let asked = state.error_state(9, sheet);
+    not_sound(asked.code(), asked.reason(), asked.records);
+    for asked in [state.receive_errors(9, sheet), state.transmit_errors(9, sheet)] {
+        not_sound(asked.code(), asked.reason(), asked.records);
+    }
     let next = state.next_to_send(9, &[]);
     not_sound(next.code(), next.reason(), next.records);
     let written = state.write(9, 9, identifier, &[], sheet, &mut memory);

@@ -124,7 +124,7 @@ fn p10_fd_is_unwanted_where_the_payload_is_8() {
     let front = sequence(&[&TO_P3, &[P5], &P7, &P8, &P9]);
     assert_eq!(
         after(&front, &["arrived 0 40000120 0102030405060708", "state"]),
-        ["arrived 0 0 unwanted", "state 1 1 2 c:1,0,0 o:0,0,0 o:0,0,0"]
+        ["arrived 0 0 unwanted", "state 1 1 2 c:1,0,0,0,0,0 o:0,0,0 o:0,0,0"]
     );
 }
 

@@ -4,45 +4,14 @@
 //! handle, its 72 bytes untouched till then. It is confirmed exactly if it was sent
 //! since, and else cancelled, whichever poll closes it.
 
+mod common;
+
 use std::collections::{BTreeMap, BTreeSet};
 
+use common::printed::{plain_number, words, Printed};
 use pump_model::config::{Config, Kind};
 use pump_model::mailbox;
 use pump_model::nights::{self, Maker, Style};
-
-/// A call as printed: name, code, reason, answer and records.
-struct Printed {
-    name: String,
-    code: u32,
-    reason: u32,
-    answer: String,
-    records: Vec<Vec<u32>>,
-}
-
-impl Printed {
-    /// Reads the printed line of a call; `None` for other lines.
-    fn read(answer: &[u8]) -> Option<Printed> {
-        let text = std::str::from_utf8(answer).ok()?.trim_end();
-        let mut words = text.splitn(6, ' ').skip(1);
-        let name = words.next()?.to_string();
-        let code = words.next()?.parse().ok()?;
-        if matches!(name.as_str(), "?" | "data" | "show" | "state") {
-            return None;
-        }
-        let reason = words.next()?.parse().ok()?;
-        let answer = words.next()?.to_string();
-        let rest = words.next().unwrap_or("");
-        let records = rest
-            .split('[')
-            .skip(1)
-            .map(|record| {
-                let record = record.trim_end_matches([']', ' ']);
-                record.split(' ').map(|word| word.parse().expect("a number")).collect()
-            })
-            .collect();
-        Some(Printed { name, code, reason, answer, records })
-    }
-}
 
 /// The paper's mode book, fed each call's arguments and return code.
 #[derive(Default)]
@@ -83,6 +52,9 @@ impl ModeBook {
                 self.wishes[plain_number(words[1]) as usize] = Some(wish);
             }
             "busoff" => self.marks[plain_number(words[1]) as usize] = true,
+            "errors" if plain_number(words[2]) > 255 => {
+                self.marks[plain_number(words[1]) as usize] = true;
+            }
             "poll-mode" => {
                 for controller in (0..4).filter(|&controller| !self.marks[controller]) {
                     if let Some(wish) = self.wishes[controller].take() {
@@ -105,13 +77,6 @@ impl ModeBook {
             }
             _ => (),
         }
-    }
-}
-
-fn plain_number(word: &str) -> u32 {
-    match word.strip_prefix("0x") {
-        Some(digits) => u32::from_str_radix(digits, 16).expect("hex"),
-        None => word.parse().expect("decimal"),
     }
 }
 
@@ -320,8 +285,7 @@ fn judge(seed: u64, style: Style, lines: usize) -> (usize, usize, usize) {
         assert!(bench.state().is_sound());
         frames.compare(bench.memory());
         let text = String::from_utf8_lossy(&line);
-        let text = text.split('#').next().expect("a first part");
-        let words: Vec<&str> = text.split_ascii_whitespace().collect();
+        let words = words(&text);
         if maker.last_answer().is_empty() {
             modes.note_silent(&words);
         }
@@ -438,6 +402,9 @@ fn what_nights_are_made_of() {
         it_is_asked_who_sends_next(style, &lines);
         the_writer_says_yes_and_no(style, &lines);
         stops_and_bus_offs_meet_frames_that_had_left(style, &lines);
+        error_counts_cross_each_limit(style, &lines);
+        error_counts_are_refused(style, &lines);
+        errors_are_asked_for(style, &lines);
     }
 }
 
@@ -510,6 +477,82 @@ fn stops_and_bus_offs_meet_frames_that_had_left(style: Style, lines: &[(String, 
             sent > least && both > least && turns > least / 2,
             "{style:?} {what}: {sent} with sent frames alone, {both} with both, {turns} in turn"
         );
+    }
+}
+
+/// The counts that accepted events set, transmit and receive.
+fn accepted_counts(lines: &[(String, String)]) -> Vec<[u32; 2]> {
+    let events = lines.iter().filter(|(_, answer)| answer.starts_with("errors 0 0 "));
+    events
+        .map(|(line, _)| {
+            let words = words(line);
+            [words[2], words[3]].map(plain_number)
+        })
+        .collect()
+}
+
+fn error_counts_cross_each_limit(style: Style, lines: &[(String, String)]) {
+    let least = if style == Style::Calm { 60 } else { 10 };
+    let counts = accepted_counts(lines);
+    for (side, name) in ["transmit", "receive"].into_iter().enumerate() {
+        for edge in [0, 127, 128, 255, 256, 65_535] {
+            let met = counts.iter().filter(|pair| pair[side] == edge).count();
+            assert!(met > least, "{style:?}: {met} events with a {name} count of {edge}");
+        }
+    }
+    let passive = count(lines, "errors 0 0 - [8 ");
+    let off = counts.iter().filter(|[transmit, _]| *transmit > 255).count();
+    assert!(passive > 5 * least && off > 5 * least, "{style:?}: {passive} passive, {off} off");
+    let received = counts.iter().filter(|[transmit, receive]| *transmit < 128 && *receive > 255);
+    assert!(received.count() > least, "{style:?}: passive by a large receive count alone");
+}
+
+fn error_counts_are_refused(style: Style, lines: &[(String, String)]) {
+    let reasons: &[u32] = match style {
+        Style::Calm => &[4, 5, 35, 37, 43],
+        Style::Wild => &[4, 5, 32, 35, 37, 43],
+    };
+    for reason in reasons {
+        let met = count(lines, &format!("errors 1 {reason} -"));
+        assert!(met > 5, "{style:?}: {met} events are refused with {reason}");
+    }
+    for word in [2, 3] {
+        let just_too_large = |(line, answer): &&(String, String)| {
+            answer == "errors 1 43 -" && plain_number(words(line)[word]) == 65_536
+        };
+        let met = lines.iter().filter(just_too_large).count();
+        assert!(met > 2, "{style:?}: {met} events with 65,536 as word {word}");
+    }
+    let unread = |(line, answer): &&(String, String)| {
+        answer.starts_with("? ")
+            && ["errors ", "errorst", "rxerr", "txerr"].iter().any(|start| line.starts_with(start))
+    };
+    let met = lines.iter().filter(unread).count();
+    assert!(if style == Style::Calm { met == 0 } else { met > 100 }, "{style:?}: {met} unread");
+}
+
+fn errors_are_asked_for(style: Style, lines: &[(String, String)]) {
+    let least = if style == Style::Calm { 200 } else { 40 };
+    for answer in ["errorstate 0 0 0", "errorstate 0 0 1", "errorstate 0 0 2"] {
+        let met = count(lines, answer);
+        assert!(met > least, "{style:?}: {met} times {answer}");
+    }
+    for name in ["rxerrors", "txerrors"] {
+        let (all, none) = (count(lines, &format!("{name} 0 0 ")), format!("{name} 0 0 0"));
+        let none = lines.iter().filter(|(_, answer)| *answer == none).count();
+        let most = count(lines, &format!("{name} 0 0 255"));
+        assert!(
+            none > least / 4 && most > least / 4 && all - none - most > least / 4,
+            "{style:?} {name}: {none} of {all} are 0, {most} are 255"
+        );
+    }
+    if style == Style::Wild {
+        for name in ["errorstate", "rxerrors", "txerrors"] {
+            for no in ["1 32 0", "1 5 0", "1 4 0"] {
+                let met = count(lines, &format!("{name} {no}"));
+                assert!(met > 5, "{met} times {name} {no}");
+            }
+        }
     }
 }
 

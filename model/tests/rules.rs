@@ -21,7 +21,8 @@ const BOTH: [&str; 4] = [TWO, "set 0 1", "set 1 1", "poll mode"];
 #[test]
 fn before_init_services_and_events_are_5_and_polls_do_nothing() {
     let script = "deinit\nset 0 STARTED\nget 0\nwrite 0 0 0 -\npoll write\npoll read\npoll mode\n\
-                  poll busoff\nsent 0\nbusoff 0\narrived 0 0 -\nnext 0\ndata 0\nstate";
+                  poll busoff\nsent 0\nbusoff 0\narrived 0 0 -\nerrors 0 65536 0\nerrorstate 0\nrxerrors 0\n\
+                  txerrors 0\nnext 0\ndata 0\nstate";
     assert_eq!(
         play(script),
         [
@@ -36,6 +37,10 @@ fn before_init_services_and_events_are_5_and_polls_do_nothing() {
             "sent 1 5 -",
             "busoff 1 5 -",
             "arrived 1 5 -",
+            "errors 1 5 -",
+            "errorstate 1 5 0 [5 17 5 0]",
+            "rxerrors 1 5 0 [5 48 5 0]",
+            "txerrors 1 5 0 [5 49 5 0]",
             "next 1 5 -",
             "data - - -",
             "state 0 0 0",
@@ -45,13 +50,17 @@ fn before_init_services_and_events_are_5_and_polls_do_nothing() {
 
 #[test]
 fn short_sheets_and_wrong_memories_come_first() {
-    let calls = "init -\ndeinit\nset 9 9\nget 9\nwrite 9 9 20000000 -\npoll write\npoll read\n\
-                 poll mode\npoll busoff\nsent 9\nbusoff 9\narrived 9 20000000 -\nnext 9";
+    let calls = "init -\ndeinit\nset 9 9\nget 9\nerrorstate 9\nrxerrors 9\ntxerrors 9\n\
+                 write 9 9 20000000 -\npoll write\npoll read\npoll mode\npoll busoff\nsent 9\n\
+                 busoff 9\narrived 9 20000000 -\nnext 9\nerrors 9 65536 65536";
     let names = [
         ("init", true),
         ("deinit", true),
         ("set", false),
         ("get", false),
+        ("errorstate", false),
+        ("rxerrors", false),
+        ("txerrors", false),
         ("write", true),
         ("poll-write", true),
         ("poll-read", true),
@@ -61,7 +70,8 @@ fn short_sheets_and_wrong_memories_come_first() {
     for (lengths, takes_sheet) in [("sheet 143\nmemory 2303", true), ("memory 2305", false)] {
         let answers = play(&format!("{lengths}\n{calls}"));
         for (answer, (name, takes_memory)) in answers.iter().zip(names) {
-            let value = if name == "get" { "0" } else { "-" };
+            let question = ["get", "errorstate", "rxerrors", "txerrors"].contains(&name);
+            let value = if question { "0" } else { "-" };
             if takes_sheet {
                 assert_eq!(*answer, format!("{name} 1 32 {value}"));
             } else if takes_memory {
@@ -70,11 +80,13 @@ fn short_sheets_and_wrong_memories_come_first() {
                 assert!(answer.starts_with(&format!("{name} 1 5 {value} [5 ")), "{answer}");
             }
         }
-        assert_eq!(answers[9], "sent 1 5 -");
-        assert_eq!(answers[10], "busoff 1 5 -");
+        assert_eq!(answers[12], "sent 1 5 -");
+        assert_eq!(answers[13], "busoff 1 5 -");
         let reason = if takes_sheet { 32 } else { 33 };
-        assert_eq!(answers[11], format!("arrived 1 {reason} -"));
-        assert_eq!(answers[12], "next 1 33 -", "it takes no sheet");
+        assert_eq!(answers[14], format!("arrived 1 {reason} -"));
+        assert_eq!(answers[15], "next 1 33 -", "it takes no sheet");
+        let reason = if takes_sheet { 32 } else { 5 };
+        assert_eq!(answers[16], format!("errors 1 {reason} -"), "it takes no memory");
     }
 }
 
@@ -109,7 +121,7 @@ fn requests_are_judged_by_the_present_mode_and_replace_each_other() {
             "set 0 0 -",
             "set 1 6 - [5 3 6 0]",
             "set 1 6 - [5 3 6 0]",
-            "state 1 1 2 c:2,1,0 o:0,0,0 o:0,0,0",
+            "state 1 1 2 c:2,1,0,0,0,0 o:0,0,0 o:0,0,0",
             "poll-mode 0 0 - [3 0 1 0]"
         ]
     );
@@ -302,10 +314,10 @@ fn a_mode_poll_does_not_overtake_a_bus_off() {
         after(&front, &["poll mode", "state", "poll busoff", "poll mode", "state"]),
         [
             "poll-mode 0 0 - [3 1 2 0]",
-            "state 1 2 6 c:1,2,1 c:2,0,0 o:1,0,0 o:0,0,0 o:0,0,0 o:0,0,0 o:0,0,0 o:0,0,0",
+            "state 1 2 6 c:1,2,1,0,0,0 c:2,0,0,0,0,0 o:1,0,0 o:0,0,0 o:0,0,0 o:0,0,0 o:0,0,0 o:0,0,0",
             "poll-busoff 0 0 - [7 0 5 0] [4 0 0 0]",
             "poll-mode 0 0 -",
-            "state 1 2 6 c:2,0,0 c:2,0,0 o:0,0,0 o:0,0,0 o:0,0,0 o:0,0,0 o:0,0,0 o:0,0,0"
+            "state 1 2 6 c:2,0,0,1,0,0 c:2,0,0,0,0,0 o:0,0,0 o:0,0,0 o:0,0,0 o:0,0,0 o:0,0,0 o:0,0,0"
         ]
     );
 }
@@ -408,7 +420,7 @@ fn a_write_takes_the_lowest_free_member_of_its_pool() {
             "write 0 0 2",
             "write 2 36 -",
             "write 0 0 1",
-            "state 1 2 6 c:1,0,0 c:1,0,0 o:1,0,0 o:1,0,0 o:1,0,0 o:0,0,0 o:1,0,0 o:0,0,0",
+            "state 1 2 6 c:1,0,0,0,0,0 c:1,0,0,0,0,0 o:1,0,0 o:1,0,0 o:1,0,0 o:0,0,0 o:1,0,0 o:0,0,0",
         ]
     );
 }
@@ -610,7 +622,7 @@ fn who_sends_next_takes_memory_and_no_sheet_and_changes_nothing() {
             &front,
             &["sheet 0", "next 0", "memory 2303", "next 9", "memory 2305", "next 0", "state"]
         ),
-        ["next 0 0 0", "next 1 33 -", "next 1 33 -", "state 1 1 2 c:1,0,0 o:1,0,0 o:0,0,0"]
+        ["next 0 0 0", "next 1 33 -", "next 1 33 -", "state 1 1 2 c:1,0,0,0,0,0 o:1,0,0 o:0,0,0"]
     );
     assert_eq!(play("memory 0\nnext 0\nmemory 2304\nnext 0"), ["next 1 33 -", "next 1 5 -"]);
 }
@@ -638,7 +650,7 @@ fn the_writer_gives_the_configuration_back() {
             format!("config 0 0 {two}"),
             "config 1 32 -".to_string(),
             "config 1 9 -".to_string(),
-            "state 1 2 6 c:2,0,0 c:2,0,0 o:0,0,0 o:0,0,0 o:0,0,0 o:0,0,0 o:0,0,0 o:0,0,0"
+            "state 1 2 6 c:2,0,0,0,0,0 c:2,0,0,0,0,0 o:0,0,0 o:0,0,0 o:0,0,0 o:0,0,0 o:0,0,0 o:0,0,0"
                 .to_string()
         ]
     );
@@ -666,7 +678,7 @@ fn the_writer_has_nothing_to_say_before_init_and_takes_neither_sheet_nor_memory(
         [
             &format!("config 0 0 {}", K.trim_start_matches("init ").to_lowercase()),
             "poll-write 0 0 -",
-            "state 1 1 2 c:1,0,0 o:1,0,0 o:0,0,0"
+            "state 1 1 2 c:1,0,0,0,0,0 o:1,0,0 o:0,0,0"
         ]
     );
 }

@@ -14,12 +14,14 @@ use can::Verdict;
 use can_calls::answer::Answer;
 use can_calls::request::Function;
 use core_places::controller::Controller;
+use core_places::errors::Errors;
 use core_places::mailbox::Mailbox;
 use core_places::range::limited;
 
 // The names of calls, one after the other.
-const NAMES: [u8; 107] =
-    *b" init  deinit  set  get  write  poll-write  poll-read  poll-mode  poll-busoff  sent  busoff  arrived  next ";
+const NAMES: [u8; 147] =
+    *b" init  deinit  set  get  errorstate  rxerrors  txerrors  write  poll-write  poll-read  poll-mode  poll-busoff  \
+        sent  busoff  errors  arrived  next ";
 
 // Where a name begins and where it ends. Not a table that is searched: it is read for every line of a night.
 fn start(function: Function) -> usize {
@@ -28,15 +30,19 @@ fn start(function: Function) -> usize {
         Function::DeInit => 6,
         Function::Set => 14,
         Function::Get => 19,
-        Function::Write => 24,
-        Function::PollWrite => 31,
-        Function::PollRead => 43,
-        Function::PollMode => 54,
-        Function::PollBusOff => 65,
-        Function::Sent => 78,
-        Function::BusOff => 84,
-        Function::Arrived => 92,
-        Function::Next => 101,
+        Function::ErrorState => 24,
+        Function::RxErrors => 36,
+        Function::TxErrors => 46,
+        Function::Write => 56,
+        Function::PollWrite => 63,
+        Function::PollRead => 75,
+        Function::PollMode => 86,
+        Function::PollBusOff => 97,
+        Function::Sent => 110,
+        Function::BusOff => 116,
+        Function::ErrorCounts => 124,
+        Function::Arrived => 132,
+        Function::Next => 141,
     }
 }
 
@@ -46,15 +52,19 @@ fn end(function: Function) -> usize {
         Function::DeInit => 14,
         Function::Set => 19,
         Function::Get => 24,
-        Function::Write => 31,
-        Function::PollWrite => 43,
-        Function::PollRead => 54,
-        Function::PollMode => 65,
-        Function::PollBusOff => 78,
-        Function::Sent => 84,
-        Function::BusOff => 92,
-        Function::Arrived => 101,
-        Function::Next => 107,
+        Function::ErrorState => 36,
+        Function::RxErrors => 46,
+        Function::TxErrors => 56,
+        Function::Write => 63,
+        Function::PollWrite => 75,
+        Function::PollRead => 86,
+        Function::PollMode => 97,
+        Function::PollBusOff => 110,
+        Function::Sent => 116,
+        Function::BusOff => 124,
+        Function::ErrorCounts => 132,
+        Function::Arrived => 141,
+        Function::Next => 147,
     }
 }
 
@@ -70,6 +80,9 @@ fn answer_start(answer: Answer) -> usize {
     match answer {
         Answer::Nothing => 0,
         Answer::Mode(_) => 29,
+        Answer::ErrorState(_) => 29,
+        Answer::RxErrors(_) => 29,
+        Answer::TxErrors(_) => 29,
         Answer::TakenBy(_) => 29,
         Answer::Stored(_) => 2,
         Answer::Unwanted => 10,
@@ -83,6 +96,9 @@ fn answer_end(answer: Answer) -> usize {
     match answer {
         Answer::Nothing => 2,
         Answer::Mode(_) => 30,
+        Answer::ErrorState(_) => 30,
+        Answer::RxErrors(_) => 30,
+        Answer::TxErrors(_) => 30,
         Answer::TakenBy(_) => 30,
         Answer::Stored(_) => 10,
         Answer::Unwanted => 19,
@@ -96,6 +112,9 @@ fn answer_end(answer: Answer) -> usize {
 fn answer_number(answer: Answer) -> u64 {
     match answer {
         Answer::Mode(m) => m as u64,
+        Answer::ErrorState(n) => n as u64,
+        Answer::RxErrors(n) => n as u64,
+        Answer::TxErrors(n) => n as u64,
         Answer::TakenBy(h) => h as u64,
         Answer::Stored(h) => h as u64,
         Answer::SendsNext(h) => h as u64,
@@ -192,10 +211,21 @@ fn flag(out: &mut [u8], at: usize, word: &[u8], set: bool) -> usize {
     numbered(out, at, word, set as u64)
 }
 
-fn controller(out: &mut [u8], at: usize, k: Controller) -> usize {
+fn mode(out: &mut [u8], at: usize, k: Controller) -> usize {
     let mut end = numbered(out, at, b" c:", k.mode as u64);
     end = numbered(out, end, b",", k.requested_mode as u64);
     flag(out, end, b",", k.bus_off)
+}
+
+fn errors(out: &mut [u8], at: usize, e: Errors) -> usize {
+    let mut end = flag(out, at, b",", e.recovering);
+    end = numbered(out, end, b",", e.tx_errors as u64);
+    numbered(out, end, b",", e.rx_errors as u64)
+}
+
+fn controller(out: &mut [u8], at: usize, k: Controller, e: Errors) -> usize {
+    let end = mode(out, at, k);
+    errors(out, end, e)
 }
 
 fn mailbox(out: &mut [u8], at: usize, m: Mailbox) -> usize {
@@ -213,7 +243,12 @@ fn controllers(out: &mut [u8], at: usize, state: State) -> usize {
             requested_mode: state.requests[c],
             bus_off: state.marks[c],
         };
-        end = controller(out, end, k);
+        let e = Errors {
+            recovering: state.recoverings[c],
+            tx_errors: state.tx_errors[c],
+            rx_errors: state.rx_errors[c],
+        };
+        end = controller(out, end, k, e);
     }
     end
 }

@@ -43,16 +43,20 @@ trouble-found troubles.UnexpectedWord = refl
 trouble-found troubles.UnknownKind = refl
 trouble-found troubles.TooManyObjects = refl
 
-pub usage-found : (x : Name) → piece (name-place x) (joined (usage-text names.Init ∷ usage-text names.DeInit ∷ usage-text names.Set ∷ usage-text names.Get ∷ usage-text names.Write ∷ usage-text names.Poll ∷ usage-text names.Sent ∷ usage-text names.BusOff ∷ usage-text names.Arrived ∷ usage-text names.Next ∷ usage-text names.Data ∷ usage-text names.Sheet ∷ usage-text names.Memory ∷ usage-text names.Show ∷ usage-text names.State ∷ usage-text names.Config ∷ usage-text names.Controllers ∷ usage-text names.Object ∷ usage-text names.Unknown ∷ [])) ≡ ascii (usage-text x)
+pub usage-found : (x : Name) → piece (name-place x) (joined (usage-text names.Init ∷ usage-text names.DeInit ∷ usage-text names.Set ∷ usage-text names.Get ∷ usage-text names.ErrorState ∷ usage-text names.RxErrors ∷ usage-text names.TxErrors ∷ usage-text names.Write ∷ usage-text names.Poll ∷ usage-text names.Sent ∷ usage-text names.BusOff ∷ usage-text names.Errors ∷ usage-text names.Arrived ∷ usage-text names.Next ∷ usage-text names.Data ∷ usage-text names.Sheet ∷ usage-text names.Memory ∷ usage-text names.Show ∷ usage-text names.State ∷ usage-text names.Config ∷ usage-text names.Controllers ∷ usage-text names.Object ∷ usage-text names.Unknown ∷ [])) ≡ ascii (usage-text x)
 unfolding piece-start leading
 usage-found names.Init = refl
 usage-found names.DeInit = refl
 usage-found names.Set = refl
 usage-found names.Get = refl
+usage-found names.ErrorState = refl
+usage-found names.RxErrors = refl
+usage-found names.TxErrors = refl
 usage-found names.Write = refl
 usage-found names.Poll = refl
 usage-found names.Sent = refl
 usage-found names.BusOff = refl
+usage-found names.Errors = refl
 usage-found names.Arrived = refl
 usage-found names.Next = refl
 usage-found names.Data = refl

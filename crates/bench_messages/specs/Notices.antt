@@ -1,5 +1,6 @@
 -- Notifications in words.
 use Prim.Native.Nat.{ℕ}
+use Prim.Native.String.{String}
 use mathlib.Core.Bool.{Bool, cond}
 use mathlib.Core.List.{List}
 use lib.Dec.{eqb}
@@ -26,6 +27,14 @@ error number =
     (cond (eqb number 9) "development error %0 CAN_E_INIT_FAILED" "development error %0 ?"))))))
     (five number 0 0 0 0)
 
+-- AUTOSAR's name of a service that asks something of a controller
+abbrev pub question-text : ℕ → String
+question-text number =
+    cond (eqb number 18) " of GetControllerMode\n"
+    (cond (eqb number 17) " of GetControllerErrorState\n"
+    (cond (eqb number 48) " of GetControllerRxErrorCounter\n"
+    (cond (eqb number 49) " of GetControllerTxErrorCounter\n" " of another service\n")))
+
 -- AUTOSAR's name of a service
 abbrev pub service : ℕ → List ℕ
 service number =
@@ -33,8 +42,7 @@ service number =
     (cond (eqb number 0) " of Init\n"
     (cond (eqb number 3) " of SetControllerMode\n"
     (cond (eqb number 6) " of Write\n"
-    (cond (eqb number 16) " of DeInit\n"
-    (cond (eqb number 18) " of GetControllerMode\n" " of another service\n")))))
+    (cond (eqb number 16) " of DeInit\n" (question-text number)))))
     (five 0 0 0 0 0)
 
 -- any other kind, at a controller or an object: a mode 3, a bus-off 4, lost data 6
@@ -45,3 +53,7 @@ change kind place second =
     (cond (eqb kind 4) "controller %0 went off the bus and is now STOPPED\n"
     (cond (eqb kind 6) "data lost: object %0 is full\n" "unknown notification\n")))
     (five place second 0 0 0)
+
+-- a controller that became error passive: its counts, of which 255 stands for every larger one too
+abbrev pub error-passive : ℕ → ℕ → ℕ → List ℕ
+error-passive controller tx rx = said "controller %0 is now error passive: transmit count %n, receive count %n\n" (five controller tx rx 0 0)

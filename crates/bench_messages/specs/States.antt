@@ -14,9 +14,16 @@ abbrev pub controller : ℕ → ℕ → ℕ → Bool → List ℕ
 controller place mode asked off =
     said
     (cond off
-    (cond (eqb asked 0) "          controller %2  %m, off the bus\n" "          controller %2  %m, asked for %m, off the bus\n")
-    (cond (eqb asked 0) "          controller %2  %m\n" "          controller %2  %m, asked for %m\n"))
+    (cond (eqb asked 0) "          controller %2  %m, off the bus" "          controller %2  %m, asked for %m, off the bus")
+    (cond (eqb asked 0) "          controller %2  %m" "          controller %2  %m, asked for %m"))
     (five place mode asked 0 0)
+
+-- what it remembers of errors, behind that: its error state, where it is not told yet, and both counts. One that a bus-off poll has stopped stays
+-- bus-off until it is STARTED.
+abbrev pub errors : Bool → Bool → ℕ → ℕ → ℕ → List ℕ
+errors off recovering state tx rx =
+    cond off (said ": transmit count %0, receive count %0" (five tx rx 0 0 0))
+    (said (cond recovering ", %e until STARTED: transmit count %0, receive count %0" ", %e: transmit count %0, receive count %0") (five state tx rx 0 0))
 
 -- an object as the configuration in words has it; the pool of one that sends is said where it is not its own number
 abbrev pub sending : ℕ → ℕ → ℕ → ℕ → ℕ → List ℕ

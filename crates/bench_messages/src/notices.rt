@@ -1,5 +1,6 @@
 // Notifications in words.
 ghost use Rattle.bench_text.specs.Put.{Put};
+ghost use Rattle.bench_say.specs.Say.{said, five};
 ghost use Rattle.bench_messages.specs.Notices as notices;
 use bench_say::say::say;
 
@@ -79,6 +80,28 @@ pub fn error(out: &mut [u8], at: usize, number: u64) -> usize
     say(out, at, b"development error %0 ?", [number, 0, 0, 0, 0])
 }
 
+// A service that asks something of a controller, by AUTOSAR's name.
+fn question(out: &mut [u8], at: usize, number: u64) -> usize
+    ensures { λ r. ⌜ Put at (said (notices.question-text number) (five 0 0 0 0 0)) (now (out .entry)) (now (out .exit)) r ⌝ }
+{
+    if number == 18 {
+        return say(out, at, b" of GetControllerMode\n", [0, 0, 0, 0, 0]);
+    }
+    if number == 17 {
+        let text = b" of GetControllerErrorState\n";
+        return say(out, at, text, [0, 0, 0, 0, 0]);
+    }
+    if number == 48 {
+        let text = b" of GetControllerRxErrorCounter\n";
+        return say(out, at, text, [0, 0, 0, 0, 0]);
+    }
+    if number == 49 {
+        let text = b" of GetControllerTxErrorCounter\n";
+        return say(out, at, text, [0, 0, 0, 0, 0]);
+    }
+    say(out, at, b" of another service\n", [0, 0, 0, 0, 0])
+}
+
 // A service by AUTOSAR's name.
 pub fn service(out: &mut [u8], at: usize, number: u64) -> usize
     ensures { λ r. ⌜ Put at (notices.service number) (now (out .entry)) (now (out .exit)) r ⌝ }
@@ -95,10 +118,7 @@ pub fn service(out: &mut [u8], at: usize, number: u64) -> usize
     if number == 16 {
         return say(out, at, b" of DeInit\n", [0, 0, 0, 0, 0]);
     }
-    if number == 18 {
-        return say(out, at, b" of GetControllerMode\n", [0, 0, 0, 0, 0]);
-    }
-    say(out, at, b" of another service\n", [0, 0, 0, 0, 0])
+    question(out, at, number)
 }
 
 // A change of a controller, or lost data.
@@ -126,4 +146,12 @@ pub fn change(out: &mut [u8], at: usize, kind: u32, place: u64, second: u64) -> 
         );
     }
     say(out, at, b"unknown notification\n", [place, second, 0, 0, 0])
+}
+
+// A controller that became error passive.
+pub fn error_passive(out: &mut [u8], at: usize, controller: u64, tx: u64, rx: u64) -> usize
+    ensures { λ r. ⌜ Put at (notices.error-passive controller tx rx) (now (out .entry)) (now (out .exit)) r ⌝ }
+{
+    let text = b"controller %0 is now error passive: transmit count %n, receive count %n\n";
+    say(out, at, text, [controller, tx, rx, 0, 0])
 }

@@ -24,10 +24,10 @@ fn off_the_bus(out: &mut [u8], at: usize, place: u64, mode: u64, asked: u64) -> 
     ensures { λ r. ⌜ Put at (states.controller place mode asked true) (now (out .entry)) (now (out .exit)) r ⌝ }
 {
     if asked == 0 {
-        let text = b"          controller %2  %m, off the bus\n";
+        let text = b"          controller %2  %m, off the bus";
         return say(out, at, text, [place, mode, asked, 0, 0]);
     }
-    let text = b"          controller %2  %m, asked for %m, off the bus\n";
+    let text = b"          controller %2  %m, asked for %m, off the bus";
     say(out, at, text, [place, mode, asked, 0, 0])
 }
 
@@ -39,11 +39,11 @@ fn on_the_bus(out: &mut [u8], at: usize, place: u64, mode: u64, asked: u64) -> u
         return say(
             out,
             at,
-            b"          controller %2  %m\n",
+            b"          controller %2  %m",
             [place, mode, asked, 0, 0],
         );
     }
-    let text = b"          controller %2  %m, asked for %m\n";
+    let text = b"          controller %2  %m, asked for %m";
     say(out, at, text, [place, mode, asked, 0, 0])
 }
 
@@ -55,6 +55,30 @@ pub fn controller(out: &mut [u8], at: usize, place: u64, mode: u64, asked: u64, 
         return off_the_bus(out, at, place, mode, asked);
     }
     on_the_bus(out, at, place, mode, asked)
+}
+
+// What it remembers of errors: its error state, where it is not told yet, and both counts.
+pub fn errors(
+    out: &mut [u8],
+    at: usize,
+    off: bool,
+    recovering: bool,
+    state: u64,
+    tx: u64,
+    rx: u64,
+) -> usize
+    ensures { λ r. ⌜ Put at (states.errors off recovering state tx rx) (now (out .entry)) (now (out .exit)) r ⌝ }
+{
+    if off {
+        let text = b": transmit count %0, receive count %0";
+        return say(out, at, text, [tx, rx, 0, 0, 0]);
+    }
+    if recovering {
+        let text = b", %e until STARTED: transmit count %0, receive count %0";
+        return say(out, at, text, [state, tx, rx, 0, 0]);
+    }
+    let text = b", %e: transmit count %0, receive count %0";
+    say(out, at, text, [state, tx, rx, 0, 0])
 }
 
 // An object as the configuration in words has it: one that sends, with its pool where that is not its own number, and one that receives.

@@ -73,21 +73,25 @@ fn place_of(name: Name) -> usize
         Name::DeInit => 1,
         Name::Set => 2,
         Name::Get => 3,
-        Name::Write => 4,
-        Name::Poll => 5,
-        Name::Sent => 6,
-        Name::BusOff => 7,
-        Name::Arrived => 8,
-        Name::Next => 9,
-        Name::Data => 10,
-        Name::Sheet => 11,
-        Name::Memory => 12,
-        Name::Show => 13,
-        Name::State => 14,
-        Name::Config => 15,
-        Name::Controllers => 16,
-        Name::Object => 17,
-        Name::Unknown => 18,
+        Name::ErrorState => 4,
+        Name::RxErrors => 5,
+        Name::TxErrors => 6,
+        Name::Write => 7,
+        Name::Poll => 8,
+        Name::Sent => 9,
+        Name::BusOff => 10,
+        Name::Errors => 11,
+        Name::Arrived => 12,
+        Name::Next => 13,
+        Name::Data => 14,
+        Name::Sheet => 15,
+        Name::Memory => 16,
+        Name::Show => 17,
+        Name::State => 18,
+        Name::Config => 19,
+        Name::Controllers => 20,
+        Name::Object => 21,
+        Name::Unknown => 22,
     }
 }
 
@@ -99,10 +103,14 @@ fn usage(out: &mut [u8], at: usize, name: Name) -> usize
         deinit|\
         set CONTROLLER MODE|\
         get CONTROLLER|\
+        errorstate CONTROLLER|\
+        rxerrors CONTROLLER|\
+        txerrors CONTROLLER|\
         write OBJECT HANDLE ID BYTES|\
         poll write, poll read, poll mode or poll busoff|\
         sent OBJECT|\
         busoff CONTROLLER|\
+        errors CONTROLLER TRANSMIT RECEIVE|\
         arrived CONTROLLER ID BYTES|\
         next CONTROLLER|\
         data OBJECT|\
@@ -113,7 +121,7 @@ fn usage(out: &mut [u8], at: usize, name: Name) -> usize
         config VERSION ROOM|\
         controllers COUNT|\
         object send controller C payload P padding XX, the same with pool N behind it, or object receive controller C payload P code ID mask ID|\
-        init, controllers, object, deinit, set, get, write, poll, sent, busoff, arrived, next, data, sheet, memory, show, state or config";
+        init, controllers, object, deinit, set, get, errorstate, rxerrors, txerrors, write, poll, sent, busoff, errors, arrived, next, data, sheet, memory, show, state or config";
     put(out, at, piece(texts, place_of(name)))
 }
 

@@ -40,6 +40,8 @@ pub const DEVELOPMENT_ERROR: u32 = 5;
 
 pub const CANCELLED: u32 = 7;
 
+const ERROR_PASSIVE: u32 = 8;
+
 // Whether a notification closes a write.
 pub fn closes(n: Notification) -> bool {
     (n.kind == CONFIRMED) | (n.kind == CANCELLED)
@@ -66,6 +68,12 @@ fn received(out: &mut [u8], at: usize, book: &[u64], ram: &[u8], n: Notification
     data(out, end, ram, n.place)
 }
 
+// A controller that became error passive, with its two counts.
+fn error_passive(out: &mut [u8], at: usize, n: Notification) -> usize {
+    let controller = n.place as u64;
+    notices::error_passive(out, at, controller, n.second as u64, n.third as u64)
+}
+
 fn development_error(out: &mut [u8], at: usize, service: u32, error: u32) -> usize {
     let end = notices::error(out, at, error as u64);
     notices::service(out, end, service as u64)
@@ -88,6 +96,7 @@ pub fn told(
     match kind {
         RECEIVED => received(out, end, book, ram, n),
         DEVELOPMENT_ERROR => development_error(out, end, n.place, n.second),
+        ERROR_PASSIVE => error_passive(out, end, n),
         _ => notices::change(out, end, kind, n.place as u64, n.second as u64),
     }
 }

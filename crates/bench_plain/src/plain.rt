@@ -45,6 +45,14 @@ fn is_nobody(answer: Answer) -> bool {
     }
 }
 
+// Whether a call may take its controller off the bus.
+fn counts_errors(function: Function) -> bool {
+    match function {
+        Function::ErrorCounts => true,
+        _ => false,
+    }
+}
+
 // The identifier of the frame that is sent next.
 fn identified(out: &mut [u8], at: usize, answer: Answer, ram: &[u8]) -> usize {
     match answer {
@@ -54,7 +62,7 @@ fn identified(out: &mut [u8], at: usize, answer: Answer, ram: &[u8]) -> usize {
 }
 
 // What an accepted call answers; the state is that after it, and the memory that lent to it. Where nobody sends since the controller is off
-// the bus, that is told.
+// the bus, and where error counts take it off the bus, that is told.
 fn accepted(
     out: &mut [u8],
     at: usize,
@@ -68,6 +76,9 @@ fn accepted(
         return answers::off_the_bus(out, at, request.controller as u64);
     }
     let function = request.function;
+    if counts_errors(function) & is_off(next, request.controller) {
+        return answers::counted_off(out, at, request.controller as u64);
+    }
     let controllers = next.controller_count as u64;
     let objects = next.object_count as u64;
     let end = answers::answer(out, at, answer, function, told, controllers, objects);

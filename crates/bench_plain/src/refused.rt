@@ -79,6 +79,13 @@ fn is_configuration(reason: Rejection) -> bool {
     }
 }
 
+fn is_error_count(reason: Rejection) -> bool {
+    match reason {
+        Rejection::ErrorCountTooLarge => true,
+        _ => false,
+    }
+}
+
 // `rejected 35: controller 0 is not STARTED`; the state is that before the call, and bytes are those that the call was given.
 pub fn call(
     out: &mut [u8],
@@ -94,6 +101,9 @@ pub fn call(
     let end = refusals::verdict(out, at, reason);
     if is_configuration(reason) {
         return fault::told(out, end, bytes);
+    }
+    if is_error_count(reason) {
+        return refusals::too_large(out, end, request.number, request.receive);
     }
     let line = origin(book, request.object);
     if pool::is_told(state, request, reason) {

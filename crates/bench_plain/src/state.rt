@@ -1,8 +1,12 @@
 // The driver state in words.
 use bench_messages::states;
+use bench_text::put::put;
 use can::State;
 use can_state::settings::Settings;
 use core_places::controller::Controller;
+use core_places::errors::Errors;
+use core_places::errors::error_state;
+use core_places::errors::errors_none;
 use core_places::mailbox::Mailbox;
 use core_places::owner::Owner;
 use core_places::range::limited;
@@ -19,15 +23,33 @@ pub fn counts(out: &mut [u8], at: usize, state: State) -> usize {
     )
 }
 
-fn controller(out: &mut [u8], at: usize, c: u64, k: Controller) -> usize {
-    states::controller(
+// What a controller remembers of errors, where there is something.
+fn errors(out: &mut [u8], at: usize, k: Controller, e: Errors) -> usize {
+    if errors_none(e) {
+        return at;
+    }
+    states::errors(
+        out,
+        at,
+        k.bus_off,
+        e.recovering,
+        error_state(k, e) as u64,
+        e.tx_errors as u64,
+        e.rx_errors as u64,
+    )
+}
+
+fn controller(out: &mut [u8], at: usize, c: u64, k: Controller, e: Errors) -> usize {
+    let mut end = states::controller(
         out,
         at,
         c,
         k.mode as u64,
         k.requested_mode as u64,
         k.bus_off,
-    )
+    );
+    end = errors(out, end, k, e);
+    put(out, end, b"\n")
 }
 
 // What is configured of an object, as the configuration in words has it.
@@ -99,7 +121,12 @@ pub fn controllers(out: &mut [u8], at: usize, state: State) -> usize {
             requested_mode: state.requests[c],
             bus_off: state.marks[c],
         };
-        end = controller(out, end, c as u64, k);
+        let e = Errors {
+            recovering: state.recoverings[c],
+            tx_errors: state.tx_errors[c],
+            rx_errors: state.rx_errors[c],
+        };
+        end = controller(out, end, c as u64, k, e);
     }
     end
 }

@@ -58,10 +58,22 @@ fn bad_number_of_object(line: &[u8]) -> usize {
     9
 }
 
+// The controller or one of the two counts.
+fn bad_number_of_errors(line: &[u8]) -> usize {
+    if !is_number(word(line, 1)) {
+        return 1;
+    }
+    if !is_number(word(line, 2)) {
+        return 2;
+    }
+    3
+}
+
 // The first number of a line that is none, or too large.
 fn bad_number(name: Name, line: &[u8]) -> usize {
     match name {
         Name::Object => bad_number_of_object(line),
+        Name::Errors => bad_number_of_errors(line),
         Name::Controllers => 1,
         _ => { if is_number(word(line, 1)) { 2 } else { 1 } }
     }
@@ -129,6 +141,7 @@ fn unexpected(line: &[u8]) -> usize {
 fn too_many(name: Name) -> usize {
     match name {
         Name::Object => 10,
+        Name::Errors => 4,
         Name::Set | Name::Config => 3,
         Name::DeInit | Name::State => 1,
         _ => 2,

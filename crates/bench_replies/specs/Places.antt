@@ -4,72 +4,87 @@ use mathlib.Core.Bool.{Bool, cond}
 use lib.Dec.{eqb, ltb}
 use Rattle.rules.specs.Can.{is-fd, longest-fd}
 use Rattle.can_calls.specs.declared.request.Function.{Function}
-use Rattle.can_calls.specs.declared.request.Function.the-variants.{Init, DeInit, Set, Get, Write, PollWrite, PollRead, PollMode, PollBusOff, Sent, BusOff, Arrived, Next}
+use Rattle.can_calls.specs.declared.request.Function.the-variants as functions
 use Rattle.can_calls.specs.declared.answer.Answer.{Answer}
-use Rattle.can_calls.specs.declared.answer.Answer.the-variants.{Nothing, Mode, TakenBy, Stored, Unwanted, Lost, SendsNext, Nobody}
+use Rattle.can_calls.specs.declared.answer.Answer.the-variants.{Nothing, Mode, ErrorState, RxErrors, TxErrors, TakenBy, Stored, Unwanted, Lost, SendsNext, Nobody}
 use Rattle.core_answers.specs.declared.rejection.Rejection.{Rejection}
 use Rattle.core_answers.specs.declared.rejection.Rejection.the-variants as rejections
 
 abbrev pub call-place : Function → ℕ
-call-place Init = 0
-call-place DeInit = 1
-call-place Set = 2
-call-place Get = 3
-call-place Write = 4
-call-place PollWrite = 5
-call-place PollRead = 6
-call-place PollMode = 7
-call-place PollBusOff = 8
-call-place Sent = 9
-call-place BusOff = 10
-call-place Arrived = 11
-call-place Next = 12
+call-place functions.Init = 0
+call-place functions.DeInit = 1
+call-place functions.Set = 2
+call-place functions.Get = 3
+call-place functions.ErrorState = 4
+call-place functions.RxErrors = 5
+call-place functions.TxErrors = 6
+call-place functions.Write = 7
+call-place functions.PollWrite = 8
+call-place functions.PollRead = 9
+call-place functions.PollMode = 10
+call-place functions.PollBusOff = 11
+call-place functions.Sent = 12
+call-place functions.BusOff = 13
+call-place functions.ErrorCounts = 14
+call-place functions.Arrived = 15
+call-place functions.Next = 16
 
 abbrev pub polled-place : ℕ → ℕ
 polled-place told = cond (eqb told 0) 3 0
 
 abbrev pub verdict-place : Function → ℕ → ℕ
-verdict-place Init polled = 1
-verdict-place DeInit polled = 0
-verdict-place Set polled = 2
-verdict-place Get polled = 0
-verdict-place Write polled = 0
-verdict-place PollWrite polled = polled
-verdict-place PollRead polled = polled
-verdict-place PollMode polled = polled
-verdict-place PollBusOff polled = polled
-verdict-place Sent polled = 0
-verdict-place BusOff polled = 0
-verdict-place Arrived polled = 0
-verdict-place Next polled = 0
+verdict-place functions.Init polled = 1
+verdict-place functions.DeInit polled = 0
+verdict-place functions.Set polled = 2
+verdict-place functions.Get polled = 0
+verdict-place functions.ErrorState polled = 0
+verdict-place functions.RxErrors polled = 0
+verdict-place functions.TxErrors polled = 0
+verdict-place functions.Write polled = 0
+verdict-place functions.PollWrite polled = polled
+verdict-place functions.PollRead polled = polled
+verdict-place functions.PollMode polled = polled
+verdict-place functions.PollBusOff polled = polled
+verdict-place functions.Sent polled = 0
+verdict-place functions.BusOff polled = 0
+verdict-place functions.ErrorCounts polled = 0
+verdict-place functions.Arrived polled = 0
+verdict-place functions.Next polled = 0
 
 abbrev pub answer-place : Answer → ℕ → ℕ
 answer-place Nothing verdict = verdict
 answer-place (Mode m) verdict = 4
-answer-place (TakenBy h) verdict = 5
-answer-place (Stored h) verdict = 6
-answer-place Unwanted verdict = 7
-answer-place Lost verdict = 8
-answer-place (SendsNext h) verdict = 9
-answer-place Nobody verdict = 10
+answer-place (ErrorState n) verdict = 5
+answer-place (RxErrors n) verdict = 6
+answer-place (TxErrors n) verdict = 6
+answer-place (TakenBy h) verdict = 7
+answer-place (Stored h) verdict = 8
+answer-place Unwanted verdict = 9
+answer-place Lost verdict = 10
+answer-place (SendsNext h) verdict = 11
+answer-place Nobody verdict = 12
 
 abbrev pub other-place : Bool → ℕ
 other-place initialised = cond initialised 5 2
 
 abbrev pub transition-place : Function → ℕ → ℕ
-transition-place Init other = 3
-transition-place DeInit other = other
-transition-place Set other = 4
-transition-place Get other = other
-transition-place Write other = other
-transition-place PollWrite other = other
-transition-place PollRead other = other
-transition-place PollMode other = other
-transition-place PollBusOff other = other
-transition-place Sent other = other
-transition-place BusOff other = other
-transition-place Arrived other = other
-transition-place Next other = other
+transition-place functions.Init other = 3
+transition-place functions.DeInit other = other
+transition-place functions.Set other = 4
+transition-place functions.Get other = other
+transition-place functions.ErrorState other = other
+transition-place functions.RxErrors other = other
+transition-place functions.TxErrors other = other
+transition-place functions.Write other = other
+transition-place functions.PollWrite other = other
+transition-place functions.PollRead other = other
+transition-place functions.PollMode other = other
+transition-place functions.PollBusOff other = other
+transition-place functions.Sent other = other
+transition-place functions.BusOff other = other
+transition-place functions.ErrorCounts other = other
+transition-place functions.Arrived other = other
+transition-place functions.Next other = other
 
 abbrev pub data-place : ℕ → ℕ → ℕ
 data-place identifier length = cond (is-fd identifier) (cond (ltb longest-fd length) 7 8) 6
@@ -93,3 +108,4 @@ refusal-place rejections.BusOff transition fit wire = 16
 refusal-place rejections.NothingToSend transition fit wire = 17
 refusal-place rejections.BadLength transition fit wire = wire
 refusal-place rejections.InvalidState transition fit wire = 18
+refusal-place rejections.ErrorCountTooLarge transition fit wire = 20

@@ -5,9 +5,10 @@ use mathlib.Core.Bool.{Bool, cond}
 use mathlib.Core.List.{List}
 use lib.Dec.{eqb, ltb}
 use Rattle.rules.specs.Can.{is-fd, longest-fd}
+use Rattle.rules.specs.Errors.{ERROR-LIMIT}
 use Rattle.core_answers.specs.Answer.{reason-of}
 use Rattle.core_answers.specs.declared.rejection.Rejection.{Rejection}
-use Rattle.core_answers.specs.declared.rejection.Rejection.the-variants.{ParamHandle, ParamDataLength, ParamController, Uninit, Transition, InitFailed, SheetTooShort, WrongRamSize, BadIdentifier, NotStarted, ObjectBusy, BusOff, NothingToSend, BadLength, InvalidState}
+use Rattle.core_answers.specs.declared.rejection.Rejection.the-variants.{ParamHandle, ParamDataLength, ParamController, Uninit, Transition, InitFailed, SheetTooShort, WrongRamSize, BadIdentifier, NotStarted, ObjectBusy, BusOff, NothingToSend, BadLength, InvalidState, ErrorCountTooLarge}
 use Rattle.can_calls.specs.declared.request.Function.{Function}
 use Rattle.can_calls.specs.declared.request.Function.the-variants as functions
 use Rattle.bench_say.specs.Say.{said, five}
@@ -25,6 +26,9 @@ transition-text functions.Init initialised = "the driver is initialised already"
 transition-text functions.DeInit initialised = other-text initialised
 transition-text functions.Set initialised = "controller %0 cannot go from %m to %m"
 transition-text functions.Get initialised = other-text initialised
+transition-text functions.ErrorState initialised = other-text initialised
+transition-text functions.RxErrors initialised = other-text initialised
+transition-text functions.TxErrors initialised = other-text initialised
 transition-text functions.Write initialised = other-text initialised
 transition-text functions.PollWrite initialised = other-text initialised
 transition-text functions.PollRead initialised = other-text initialised
@@ -32,6 +36,7 @@ transition-text functions.PollMode initialised = other-text initialised
 transition-text functions.PollBusOff initialised = other-text initialised
 transition-text functions.Sent initialised = other-text initialised
 transition-text functions.BusOff initialised = other-text initialised
+transition-text functions.ErrorCounts initialised = other-text initialised
 transition-text functions.Arrived initialised = other-text initialised
 transition-text functions.Next initialised = other-text initialised
 
@@ -61,3 +66,9 @@ refusal-text BusOff function identifier length initialised = "controller %0 is o
 refusal-text NothingToSend function identifier length initialised = "object %0 holds no frame that waits to be sent"
 refusal-text BadLength function identifier length initialised = wire-text identifier
 refusal-text InvalidState function identifier length initialised = "the driver state is not valid"
+refusal-text ErrorCountTooLarge function identifier length initialised = "an error count is too large"
+
+-- 43: the count that is too large, the first of the two if both are
+abbrev pub too-large : ℕ → ℕ → List ℕ
+too-large tx rx =
+    cond (ltb ERROR-LIMIT tx) (said "transmit count %0, expected at most 65535" (five tx 0 0 0 0)) (said "receive count %0, expected at most 65535" (five rx 0 0 0 0))

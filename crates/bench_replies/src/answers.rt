@@ -2,7 +2,7 @@
 ghost use mathlib.Core.Path.{_≡_};
 ghost use Rattle.bench_text.specs.Put.{Put};
 ghost use Rattle.bench_say.specs.Say.{said};
-ghost use Rattle.bench_replies.specs.Answers.{answer-text, answer-numbers, its-identifier, off-the-bus};
+ghost use Rattle.bench_replies.specs.Answers.{answer-text, answer-numbers, its-identifier, off-the-bus, counted-off};
 ghost use Rattle.bench_replies.specs.Places.{polled-place, verdict-place, answer-place};
 use bench_say::say::NUMBERS;
 use bench_say::say::say;
@@ -26,6 +26,9 @@ fn verdict_place(function: Function, polled: usize) -> usize
         Function::DeInit => 0,
         Function::Set => 2,
         Function::Get => 0,
+        Function::ErrorState => 0,
+        Function::RxErrors => 0,
+        Function::TxErrors => 0,
         Function::Write => 0,
         Function::PollWrite => polled,
         Function::PollRead => polled,
@@ -33,6 +36,7 @@ fn verdict_place(function: Function, polled: usize) -> usize
         Function::PollBusOff => polled,
         Function::Sent => 0,
         Function::BusOff => 0,
+        Function::ErrorCounts => 0,
         Function::Arrived => 0,
         Function::Next => 0,
     }
@@ -44,12 +48,15 @@ fn place(answer: Answer, verdict: usize) -> usize
     match answer {
         Answer::Nothing => verdict,
         Answer::Mode(_) => 4,
-        Answer::TakenBy(_) => 5,
-        Answer::Stored(_) => 6,
-        Answer::Unwanted => 7,
-        Answer::Lost => 8,
-        Answer::SendsNext(_) => 9,
-        Answer::Nobody => 10,
+        Answer::ErrorState(_) => 5,
+        Answer::RxErrors(_) => 6,
+        Answer::TxErrors(_) => 6,
+        Answer::TakenBy(_) => 7,
+        Answer::Stored(_) => 8,
+        Answer::Unwanted => 9,
+        Answer::Lost => 10,
+        Answer::SendsNext(_) => 11,
+        Answer::Nobody => 12,
     }
 }
 
@@ -60,6 +67,9 @@ fn numbers(answer: Answer, controllers: u64, objects: u64) -> [u64; NUMBERS]
     match answer {
         Answer::Nothing => [controllers, objects, 0, 0, 0],
         Answer::Mode(m) => [m as u64, 0, 0, 0, 0],
+        Answer::ErrorState(n) => [n as u64, 0, 0, 0, 0],
+        Answer::RxErrors(n) => [n as u64, 0, 0, 0, 0],
+        Answer::TxErrors(n) => [n as u64, 0, 0, 0, 0],
         Answer::TakenBy(h) => [h as u64, 0, 0, 0, 0],
         Answer::Stored(h) => [h as u64, 0, 0, 0, 0],
         Answer::Unwanted => [0, 0, 0, 0, 0],
@@ -86,6 +96,8 @@ pub fn answer(
         accepted: waits for the mode poll|\
         accepted: nothing to report|\
         %m|\
+        %e|\
+        %n|\
         accepted: waits in object %0|\
         stored in object %0|\
         unwanted: no object fits|\
@@ -111,6 +123,18 @@ pub fn off_the_bus(out: &mut [u8], at: usize, controller: u64) -> usize
         out,
         at,
         b"controller %0 is off the bus",
+        [controller, 0, 0, 0, 0],
+    )
+}
+
+// Error counts that take their controller off the bus.
+pub fn counted_off(out: &mut [u8], at: usize, controller: u64) -> usize
+    ensures { λ r. ⌜ Put at (counted-off controller) (now (out .entry)) (now (out .exit)) r ⌝ }
+{
+    say(
+        out,
+        at,
+        b"accepted: controller %0 is off the bus",
         [controller, 0, 0, 0, 0],
     )
 }

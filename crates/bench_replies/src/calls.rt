@@ -17,15 +17,19 @@ fn place(function: Function) -> usize
         Function::DeInit => 1,
         Function::Set => 2,
         Function::Get => 3,
-        Function::Write => 4,
-        Function::PollWrite => 5,
-        Function::PollRead => 6,
-        Function::PollMode => 7,
-        Function::PollBusOff => 8,
-        Function::Sent => 9,
-        Function::BusOff => 10,
-        Function::Arrived => 11,
-        Function::Next => 12,
+        Function::ErrorState => 4,
+        Function::RxErrors => 5,
+        Function::TxErrors => 6,
+        Function::Write => 7,
+        Function::PollWrite => 8,
+        Function::PollRead => 9,
+        Function::PollMode => 10,
+        Function::PollBusOff => 11,
+        Function::Sent => 12,
+        Function::BusOff => 13,
+        Function::ErrorCounts => 14,
+        Function::Arrived => 15,
+        Function::Next => 16,
     }
 }
 
@@ -38,12 +42,16 @@ fn numbers(request: Request, bytes: u32) -> [u64; NUMBERS]
     let controller = request.controller as u64;
     let object = request.object as u64;
     let number = request.number as u64;
+    let receive = request.receive as u64;
     let identifier = request.identifier as u64;
     match function {
         Function::Init => [length, 0, 0, 0, 0],
         Function::DeInit => [0, 0, 0, 0, 0],
         Function::Set => [controller, number, 0, 0, 0],
         Function::Get => [controller, 0, 0, 0, 0],
+        Function::ErrorState => [controller, 0, 0, 0, 0],
+        Function::RxErrors => [controller, 0, 0, 0, 0],
+        Function::TxErrors => [controller, 0, 0, 0, 0],
         Function::Write => [object, number, identifier, length, 0],
         Function::PollWrite => [0, 0, 0, 0, 0],
         Function::PollRead => [0, 0, 0, 0, 0],
@@ -51,6 +59,7 @@ fn numbers(request: Request, bytes: u32) -> [u64; NUMBERS]
         Function::PollBusOff => [0, 0, 0, 0, 0],
         Function::Sent => [object, 0, 0, 0, 0],
         Function::BusOff => [controller, 0, 0, 0, 0],
+        Function::ErrorCounts => [controller, number, receive, 0, 0],
         Function::Arrived => [controller, identifier, length, 0, 0],
         Function::Next => [controller, 0, 0, 0, 0],
     }
@@ -64,6 +73,9 @@ pub fn call(out: &mut [u8], at: usize, request: Request, bytes: u32) -> usize
         deinit|\
         set controller %0 to %m|\
         get controller %0|\
+        error state of controller %0|\
+        receive errors of controller %0|\
+        transmit errors of controller %0|\
         write object %0, handle %0, id %i, %b|\
         poll write|\
         poll read|\
@@ -71,6 +83,7 @@ pub fn call(out: &mut [u8], at: usize, request: Request, bytes: u32) -> usize
         poll busoff|\
         sent from object %0|\
         busoff of controller %0|\
+        errors of controller %0: transmit %0, receive %0|\
         arrived on controller %0, id %i, %b|\
         next on controller %0";
     let function = request.function;

@@ -2,7 +2,7 @@
 ghost use mathlib.Core.Path.{_≡_};
 ghost use Rattle.bench_text.specs.Put.{Put};
 ghost use Rattle.bench_say.specs.Say.{said};
-ghost use Rattle.bench_replies.specs.Refusals.{verdict, refusal-text};
+ghost use Rattle.bench_replies.specs.Refusals.{verdict, refusal-text, too-large};
 ghost use Rattle.bench_replies.specs.Places as places;
 use bench_say::say::NUMBERS;
 use bench_say::say::say;
@@ -14,6 +14,9 @@ use can_frame::length::LONGEST_FD;
 
 // CAN_BUSY's reason.
 const BUSY: u64 = 36;
+
+// The largest error count.
+const ERROR_LIMIT: u32 = 65535;
 
 // `rejected 35: `, `busy 36: `
 pub fn verdict(out: &mut [u8], at: usize, reason: Rejection) -> usize
@@ -41,6 +44,9 @@ fn transition_place(function: Function, other: usize) -> usize
         Function::DeInit => other,
         Function::Set => 4,
         Function::Get => other,
+        Function::ErrorState => other,
+        Function::RxErrors => other,
+        Function::TxErrors => other,
         Function::Write => other,
         Function::PollWrite => other,
         Function::PollRead => other,
@@ -48,6 +54,7 @@ fn transition_place(function: Function, other: usize) -> usize
         Function::PollBusOff => other,
         Function::Sent => other,
         Function::BusOff => other,
+        Function::ErrorCounts => other,
         Function::Arrived => other,
         Function::Next => other,
     }
@@ -92,6 +99,7 @@ fn place(reason: Rejection, transition: usize, fit: usize, wire: usize) -> usize
         Rejection::NothingToSend => 17,
         Rejection::BadLength => wire,
         Rejection::InvalidState => 18,
+        Rejection::ErrorCountTooLarge => 20,
     }
 }
 
@@ -127,7 +135,8 @@ pub fn refusal(
         controller %0 is off the bus|\
         object %0 holds no frame that waits to be sent|\
         the driver state is not valid|\
-        the configuration is not valid";
+        the configuration is not valid|\
+        an error count is too large";
     let transition = transition_place(function, other_place(initialised));
     let fit = data_place(identifier, length);
     let wire = wire_place(identifier);
@@ -138,4 +147,16 @@ pub fn refusal(
         place(reason, transition, fit, wire),
         numbers,
     )
+}
+
+// 43: the count that is too large, the first of the two if both are.
+pub fn too_large(out: &mut [u8], at: usize, transmit: u32, receive: u32) -> usize
+    ensures { λ r. ⌜ Put at (too-large transmit receive) (now (out .entry)) (now (out .exit)) r ⌝ }
+{
+    if ERROR_LIMIT < transmit {
+        let text = b"transmit count %0, expected at most 65535";
+        return say(out, at, text, [transmit as u64, 0, 0, 0, 0]);
+    }
+    let text = b"receive count %0, expected at most 65535";
+    say(out, at, text, [receive as u64, 0, 0, 0, 0])
 }

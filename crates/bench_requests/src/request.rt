@@ -27,18 +27,37 @@ fn call(
     identifier: u32,
     length: u32,
 ) -> Asks
-    ensures { λ r. ⌜ r ≡ requests.call (record { function = function; controller = controller; object = object; number = number; identifier = identifier }) length ⌝ }
+    ensures { λ r. ⌜ r ≡ requests.call (record { function = function; controller = controller; object = object; number = number; receive = 0; identifier = identifier }) length ⌝ }
 {
     let request = Request {
         function: function,
         controller: controller,
         object: object,
         number: number,
+        receive: 0,
         identifier: identifier,
     };
     Asks::Call(Wanted {
         request: request,
         length: length,
+    })
+}
+
+// The two error counts of a controller.
+fn counts(controller: u32, transmit: u32, receive: u32) -> Asks
+    ensures { λ r. ⌜ r ≡ requests.request-of (Command.Errors controller transmit receive) ⌝ }
+{
+    let request = Request {
+        function: Function::ErrorCounts,
+        controller: controller,
+        object: 0,
+        number: transmit,
+        receive: receive,
+        identifier: 0,
+    };
+    Asks::Call(Wanted {
+        request: request,
+        length: 0,
     })
 }
 
@@ -51,6 +70,7 @@ pub fn init(length: u32) -> Wanted
         controller: 0,
         object: 0,
         number: 0,
+        receive: 0,
         identifier: 0,
     };
     Wanted {
@@ -68,6 +88,9 @@ pub fn request_of(command: Command) -> Asks
         Command::DeInit => call(Function::DeInit, 0, 0, 0, 0, 0),
         Command::Set { controller, mode } => call(Function::Set, controller, 0, mode, 0, 0),
         Command::Get { controller } => call(Function::Get, controller, 0, 0, 0, 0),
+        Command::ErrorState { controller } => call(Function::ErrorState, controller, 0, 0, 0, 0),
+        Command::RxErrors { controller } => call(Function::RxErrors, controller, 0, 0, 0, 0),
+        Command::TxErrors { controller } => call(Function::TxErrors, controller, 0, 0, 0, 0),
         Command::Write {
             object,
             handle,
@@ -80,6 +103,11 @@ pub fn request_of(command: Command) -> Asks
         Command::PollBusOff => call(Function::PollBusOff, 0, 0, 0, 0, 0),
         Command::Sent { object } => call(Function::Sent, 0, object, 0, 0, 0),
         Command::BusOff { controller } => call(Function::BusOff, controller, 0, 0, 0, 0),
+        Command::Errors {
+            controller,
+            transmit,
+            receive,
+        } => counts(controller, transmit, receive),
         Command::Arrived {
             controller,
             identifier,

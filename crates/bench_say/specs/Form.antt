@@ -49,6 +49,14 @@ mode-name n =
     (cond (eqb n 2) (ascii "STOPPED")
     (cond (eqb n 3) (ascii "SLEEP") (ascii "mode " ++ decimal n))))
 
+-- an error state by its name
+unfoldable pub error-state-name : ℕ → List ℕ
+error-state-name n = cond (eqb n 0) (ascii "error active") (cond (eqb n 1) (ascii "error passive") (ascii "bus-off"))
+
+-- an error count as the driver tells it: 255 stands for every larger one too
+unfoldable pub told-count : ℕ → List ℕ
+told-count n = cond (leb 255 n) (ascii "255 or more") (decimal n)
+
 -- what the marks of an identifier say
 abbrev pub marks : ℕ → List ℕ
 marks identifier =
@@ -76,13 +84,15 @@ unit sign =
 abbrev pub hex-digits : ℕ → ℕ
 hex-digits sign = cond (eqb sign (code "h")) 2 (cond (eqb sign (code "H")) 8 3)
 
--- l, m, i and I: a line's number, a mode, an identifier and one in its column; any other sign: hexadecimal
+-- l, m, e, n, i and I: a line's number, a mode, an error state, an error count, an identifier and one in its column; any other sign: hexadecimal
 unfoldable pub named : ℕ → ℕ → List ℕ
 named sign n =
     cond (eqb sign (code "l")) (left n)
     (cond (eqb sign (code "m")) (mode-name n)
+    (cond (eqb sign (code "e")) (error-state-name n)
+    (cond (eqb sign (code "n")) (told-count n)
     (cond (eqb sign (code "i")) (identifier n)
-    (cond (eqb sign (code "I")) (identifier-column n) (hexadecimal (hex-digits sign) n))))
+    (cond (eqb sign (code "I")) (identifier-column n) (hexadecimal (hex-digits sign) n))))))
 
 -- the form that a sign says: 0 to 9 is a number of columns
 unfoldable pub formed : ℕ → ℕ → List ℕ

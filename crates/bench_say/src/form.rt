@@ -113,6 +113,29 @@ fn mode(out: &mut [u8], at: usize, mode: u64) -> usize
     put_decimal(out, end, mode)
 }
 
+// An error state by its name.
+fn error_state(out: &mut [u8], at: usize, state: u64) -> usize
+    ensures { λ r. ⌜ Put at (forms.error-state-name state) (now (out .entry)) (now (out .exit)) r ⌝ }
+{
+    if state == 0 {
+        return put(out, at, b"error active");
+    }
+    if state == 1 {
+        return put(out, at, b"error passive");
+    }
+    put(out, at, b"bus-off")
+}
+
+// An error count as the driver tells it: 255 stands for every larger one too.
+fn told_count(out: &mut [u8], at: usize, n: u64) -> usize
+    ensures { λ r. ⌜ Put at (forms.told-count n) (now (out .entry)) (now (out .exit)) r ⌝ }
+{
+    if 255 <= n {
+        return put(out, at, b"255 or more");
+    }
+    put_decimal(out, at, n)
+}
+
 // What the marks of an identifier say.
 fn marks(out: &mut [u8], at: usize, identifier: u32) -> usize
     ensures { λ r. ⌜ Put at (forms.marks identifier) (now (out .entry)) (now (out .exit)) r ⌝ }
@@ -201,6 +224,12 @@ fn named(out: &mut [u8], at: usize, sign: u8, n: u64) -> usize
     }
     if sign == b'm' {
         return mode(out, at, n);
+    }
+    if sign == b'e' {
+        return error_state(out, at, n);
+    }
+    if sign == b'n' {
+        return told_count(out, at, n);
     }
     if sign == b'i' {
         return identifier(out, at, n);

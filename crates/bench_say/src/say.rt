@@ -4,7 +4,8 @@
 //     %0 to %9       in decimal, at the right of so many columns
 //     %l             in decimal, at the left of nine columns
 //     %b %w %c %o    so many bytes, words, controllers or objects
-//     %m             a mode by its name
+//     %m %e          a mode and an error state by their names
+//     %n             an error count as the driver tells it
 //     %i %I          an identifier, and one in its column
 //     %x %h %H       in hexadecimal, with at least three, two or eight digits
 ghost use mathlib.Core.Path.{_≡_};

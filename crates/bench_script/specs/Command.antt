@@ -21,7 +21,7 @@ use Rattle.bench_words.specs.declared.reading.Reading.the-variants as readings
 use Rattle.bench_script.specs.declared.command.Numbered.{Numbered}
 use Rattle.bench_script.specs.declared.command.Numbered.the-variants as numbered
 use Rattle.bench_script.specs.declared.command.Command.{Command}
-use Rattle.bench_script.specs.declared.command.Command.the-variants.{Blank, Init, InitInWords, DeInit, Set, Get, Write, PollWrite, PollRead, PollMode, PollBusOff, Sent, BusOff, Arrived, Next, Data, Sheet, Memory, Show, State, Config, Controllers, Unreadable}
+use Rattle.bench_script.specs.declared.command.Command.the-variants.{Blank, Init, InitInWords, DeInit, Set, Get, ErrorState, RxErrors, TxErrors, Write, PollWrite, PollRead, PollMode, PollBusOff, Sent, BusOff, Errors, Arrived, Next, Data, Sheet, Memory, Show, State, Config, Controllers, Unreadable}
 
 -- what a line says: a command, and the bytes that it brings
 abbrev pub Said : Type 0
@@ -53,6 +53,9 @@ set-of text = with-value (number-of (first text)) (λ c. set-mode-of c (after te
 -- the command of a name that takes one number
 abbrev pub of-number : Numbered → ℕ → Command
 of-number numbered.Get c = Get c
+of-number numbered.ErrorState c = ErrorState c
+of-number numbered.RxErrors c = RxErrors c
+of-number numbered.TxErrors c = TxErrors c
 of-number numbered.Sent h = Sent h
 of-number numbered.BusOff c = BusOff c
 of-number numbered.Next c = Next c
@@ -62,13 +65,21 @@ of-number numbered.Sheet n = Sheet n
 of-number numbered.Memory n = Memory n
 of-number numbered.Controllers n = Controllers n
 
--- get C, sent OBJ, busoff C, next C, data OBJ, show OBJ
+-- get C, errorstate C, rxerrors C, txerrors C, sent OBJ, busoff C, next C, data OBJ, show OBJ
 abbrev pub with-number : Numbered → List ℕ → Command
 with-number what text = with-value (number-of (first text)) (of-number what)
 
 -- sheet N, memory N, controllers N: the number has a limit, and one above it has trouble of its own
 abbrev pub with-limited : Numbered → ℕ → Trouble → List ℕ → Command
 with-limited what limit trouble text = with-value (limited-to limit trouble (number-of (first text))) (of-number what)
+
+-- errors C TX RX
+abbrev pub errors-on-of : ℕ → List ℕ → Command
+errors-on-of c text =
+    with-value (number-of (first text)) (λ tx. with-value (number-of (first (after text))) (λ rx. Errors c tx rx))
+
+abbrev pub errors-of : List ℕ → Command
+errors-of text = with-value (number-of (first text)) (λ c. errors-on-of c (after text))
 
 -- config V ROOM
 abbrev pub config-room-of : ℕ → List ℕ → Command
@@ -114,10 +125,14 @@ named names.Init text = init-of text
 named names.DeInit text = silent DeInit
 named names.Set text = silent (set-of text)
 named names.Get text = silent (with-number numbered.Get text)
+named names.ErrorState text = silent (with-number numbered.ErrorState text)
+named names.RxErrors text = silent (with-number numbered.RxErrors text)
+named names.TxErrors text = silent (with-number numbered.TxErrors text)
 named names.Write text = write-of text
 named names.Poll text = silent (poll-of (first text))
 named names.Sent text = silent (with-number numbered.Sent text)
 named names.BusOff text = silent (with-number numbered.BusOff text)
+named names.Errors text = silent (errors-of text)
 named names.Arrived text = arrived-of text
 named names.Next text = silent (with-number numbered.Next text)
 named names.Data text = silent (with-number numbered.Data text)

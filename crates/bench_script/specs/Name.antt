@@ -6,20 +6,24 @@ use Rattle.rules.specs.Bytes.{same-bytes}
 use Rattle.bench_words.specs.Text.{ascii}
 use Rattle.bench_script.specs.declared.name.Arguments.{Arguments}
 use Rattle.bench_script.specs.declared.name.Name.{Name}
-use Rattle.bench_script.specs.declared.name.Name.the-variants.{Init, DeInit, Set, Get, Write, Poll, Sent, BusOff, Arrived, Next, Data, Sheet, Memory, Show, State, Config, Controllers, Object, Unknown}
+use Rattle.bench_script.specs.declared.name.Name.the-variants.{Init, DeInit, Set, Get, ErrorState, RxErrors, TxErrors, Write, Poll, Sent, BusOff, Errors, Arrived, Next, Data, Sheet, Memory, Show, State, Config, Controllers, Object, Unknown}
 
--- the commands' names: init, deinit, set, get, write, poll, sent, busoff, arrived, next, data, sheet, memory, show, state, config, controllers,
--- object
+-- the commands' names: init, deinit, set, get, errorstate, rxerrors, txerrors, write, poll, sent, busoff, errors, arrived, next, data, sheet,
+-- memory, show, state, config, controllers, object
 abbrev pub names : List (List ℕ × Name)
 names =
     (ascii "init", Init)
     ∷ (ascii "deinit", DeInit)
     ∷ (ascii "set", Set)
     ∷ (ascii "get", Get)
+    ∷ (ascii "errorstate", ErrorState)
+    ∷ (ascii "rxerrors", RxErrors)
+    ∷ (ascii "txerrors", TxErrors)
     ∷ (ascii "write", Write)
     ∷ (ascii "poll", Poll)
     ∷ (ascii "sent", Sent)
     ∷ (ascii "busoff", BusOff)
+    ∷ (ascii "errors", Errors)
     ∷ (ascii "arrived", Arrived)
     ∷ (ascii "next", Next)
     ∷ (ascii "data", Data)
@@ -56,10 +60,14 @@ arguments-of Init = at-least 0
 arguments-of DeInit = exactly 0
 arguments-of Set = exactly 2
 arguments-of Get = exactly 1
+arguments-of ErrorState = exactly 1
+arguments-of RxErrors = exactly 1
+arguments-of TxErrors = exactly 1
 arguments-of Write = at-least 4
 arguments-of Poll = exactly 1
 arguments-of Sent = exactly 1
 arguments-of BusOff = exactly 1
+arguments-of Errors = exactly 3
 arguments-of Arrived = at-least 3
 arguments-of Next = exactly 1
 arguments-of Data = exactly 1

@@ -37,6 +37,16 @@ pub enum Command {
     Get {
         controller: u32,
     },
+    // The error state of a controller, and its two counts.
+    ErrorState {
+        controller: u32,
+    },
+    RxErrors {
+        controller: u32,
+    },
+    TxErrors {
+        controller: u32,
+    },
     Write {
         object: u32,
         handle: u32,
@@ -52,6 +62,12 @@ pub enum Command {
     },
     BusOff {
         controller: u32,
+    },
+    // What the controller counts now.
+    Errors {
+        controller: u32,
+        transmit: u32,
+        receive: u32,
     },
     Arrived {
         controller: u32,
@@ -107,6 +123,9 @@ pub enum Command {
 // The commands that take one number and nothing else.
 pub enum Numbered {
     Get,
+    ErrorState,
+    RxErrors,
+    TxErrors,
     Sent,
     BusOff,
     Next,
@@ -175,6 +194,9 @@ fn of_number(what: Numbered, reading: Reading) -> Command
         Reading::Unreadable(t) => Command::Unreadable(t),
         Reading::Value(n) => match what {
             Numbered::Get => Command::Get { controller: n },
+            Numbered::ErrorState => Command::ErrorState { controller: n },
+            Numbered::RxErrors => Command::RxErrors { controller: n },
+            Numbered::TxErrors => Command::TxErrors { controller: n },
             Numbered::Sent => Command::Sent { object: n },
             Numbered::BusOff => Command::BusOff { controller: n },
             Numbered::Next => Command::Next { controller: n },
@@ -187,7 +209,7 @@ fn of_number(what: Numbered, reading: Reading) -> Command
     }
 }
 
-// get C, sent OBJ, busoff C, next C, data OBJ, show OBJ
+// get C, errorstate C, rxerrors C, txerrors C, sent OBJ, busoff C, next C, data OBJ, show OBJ
 fn with_number(text: &[u8], what: Numbered) -> Command
     ensures { λ r. ⌜ r ≡ commands.with-number what (now (text .entry)) ⌝ }
 {
@@ -199,6 +221,35 @@ fn with_limited(text: &[u8], what: Numbered, limit: u32, trouble: Trouble) -> Co
     ensures { λ r. ⌜ r ≡ commands.with-limited what limit trouble (now (text .entry)) ⌝ }
 {
     of_number(what, limited(first(text), limit, trouble))
+}
+
+// errors C TX RX
+fn errors(text: &[u8]) -> Command
+    ensures { λ r. ⌜ r ≡ commands.errors-of (now (text .entry)) ⌝ }
+{
+    let controller = number(first(text));
+    match controller {
+        Reading::Unreadable(t) => Command::Unreadable(t),
+        Reading::Value(c) => errors_on(after(text), c),
+    }
+}
+
+fn errors_on(text: &[u8], controller: u32) -> Command
+    ensures { λ r. ⌜ r ≡ commands.errors-on-of controller (now (text .entry)) ⌝ }
+{
+    let transmit = number(first(text));
+    let receive = number(first(after(text)));
+    match transmit {
+        Reading::Unreadable(t) => Command::Unreadable(t),
+        Reading::Value(n) => match receive {
+            Reading::Unreadable(t) => Command::Unreadable(t),
+            Reading::Value(m) => Command::Errors {
+                controller: controller,
+                transmit: n,
+                receive: m,
+            },
+        },
+    }
 }
 
 // config V ROOM
@@ -345,10 +396,14 @@ fn named(name: Name, text: &[u8], out: &mut [u8; MOST_BYTES]) -> Command
         Name::DeInit => Command::DeInit,
         Name::Set => set(text),
         Name::Get => with_number(text, Numbered::Get),
+        Name::ErrorState => with_number(text, Numbered::ErrorState),
+        Name::RxErrors => with_number(text, Numbered::RxErrors),
+        Name::TxErrors => with_number(text, Numbered::TxErrors),
         Name::Write => write(text, out),
         Name::Poll => poll(first(text)),
         Name::Sent => with_number(text, Numbered::Sent),
         Name::BusOff => with_number(text, Numbered::BusOff),
+        Name::Errors => errors(text),
         Name::Arrived => arrived(text, out),
         Name::Next => with_number(text, Numbered::Next),
         Name::Data => with_number(text, Numbered::Data),

@@ -10,10 +10,14 @@ pub enum Name {
     DeInit,
     Set,
     Get,
+    ErrorState,
+    RxErrors,
+    TxErrors,
     Write,
     Poll,
     Sent,
     BusOff,
+    Errors,
     Arrived,
     Next,
     Data,
@@ -48,10 +52,14 @@ pub fn name_of(word: &[u8]) -> Name
     let name = named_or(word, b"data", Name::Data, name);
     let name = named_or(word, b"next", Name::Next, name);
     let name = named_or(word, b"arrived", Name::Arrived, name);
+    let name = named_or(word, b"errors", Name::Errors, name);
     let name = named_or(word, b"busoff", Name::BusOff, name);
     let name = named_or(word, b"sent", Name::Sent, name);
     let name = named_or(word, b"poll", Name::Poll, name);
     let name = named_or(word, b"write", Name::Write, name);
+    let name = named_or(word, b"txerrors", Name::TxErrors, name);
+    let name = named_or(word, b"rxerrors", Name::RxErrors, name);
+    let name = named_or(word, b"errorstate", Name::ErrorState, name);
     let name = named_or(word, b"get", Name::Get, name);
     let name = named_or(word, b"set", Name::Set, name);
     let name = named_or(word, b"deinit", Name::DeInit, name);
@@ -73,10 +81,14 @@ pub fn arguments_of(name: Name) -> Arguments
         Name::DeInit => Arguments { n: 0, more: false },
         Name::Set => Arguments { n: 2, more: false },
         Name::Get => Arguments { n: 1, more: false },
+        Name::ErrorState => Arguments { n: 1, more: false },
+        Name::RxErrors => Arguments { n: 1, more: false },
+        Name::TxErrors => Arguments { n: 1, more: false },
         Name::Write => Arguments { n: 4, more: true },
         Name::Poll => Arguments { n: 1, more: false },
         Name::Sent => Arguments { n: 1, more: false },
         Name::BusOff => Arguments { n: 1, more: false },
+        Name::Errors => Arguments { n: 3, more: false },
         Name::Arrived => Arguments { n: 3, more: true },
         Name::Next => Arguments { n: 1, more: false },
         Name::Data => Arguments { n: 1, more: false },

@@ -27,20 +27,21 @@ pub use can_state::state::initial_state;
 
 // What the calls answer: a verdict or a reply, why a call is refused, and the numbers of both.
 pub use can_state::called::Arrived;
+pub use can_state::called::Asked;
 pub use can_state::called::Called;
-pub use can_state::called::ModeAsked;
 pub use can_state::called::Written;
 pub use can_writer::reply::ConfigReply;
 pub use can_writer::reply::config_verdict;
+pub use core_answers::question::Question;
 pub use core_answers::rejection::Rejection;
 pub use core_answers::rejection::reason;
 pub use core_answers::reply::ArrivalReply;
-pub use core_answers::reply::ModeReply;
 pub use core_answers::reply::NextReply;
+pub use core_answers::reply::QuestionReply;
 pub use core_answers::reply::WriteReply;
 pub use core_answers::reply::arrival_verdict;
-pub use core_answers::reply::mode_verdict;
 pub use core_answers::reply::next_verdict;
+pub use core_answers::reply::question_verdict;
 pub use core_answers::reply::write_verdict;
 pub use core_answers::verdict::Verdict;
 pub use core_answers::verdict::return_code;
@@ -56,7 +57,14 @@ pub use can_services::deinit::deinit;
 pub use can_services::set_controller_mode::set_controller_mode;
 
 // GetControllerMode: the mode that a controller is in now.
-pub use can_services::get_controller_mode::get_controller_mode;
+pub use can_services::questions::get_controller_mode;
+
+// GetControllerErrorState: 0 error active, 1 error passive, 2 bus-off, which lasts until the controller is STARTED again.
+pub use can_services::questions::get_controller_error_state;
+
+// GetControllerRxErrorCounter, GetControllerTxErrorCounter: the error counts, at most 255.
+pub use can_services::questions::get_controller_rx_error_counter;
+pub use can_services::questions::get_controller_tx_error_counter;
 
 // Write: lays a frame down in a sending object, whole, and keeps the object until the frame is confirmed or cancelled.
 pub use can_transmission::write::write;
@@ -78,6 +86,9 @@ pub use can_events::tx_complete::tx_complete;
 
 // Bus-off: the simulated controller went off the bus.
 pub use can_events::bus_off_detected::bus_off_detected;
+
+// Error counts: the simulated controller has counted errors. A transmit count above 255 takes it off the bus; entering passive is told.
+pub use can_events::errors_counted::errors_counted;
 
 // Arrived: a frame came in. It is stored, unwanted or lost.
 pub use can_arrivals::frame_arrived::frame_arrived;

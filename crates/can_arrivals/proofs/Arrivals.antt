@@ -21,10 +21,10 @@ use Rattle.can_state.specs.Tests.{SettingsAlike}
 use Rattle.can_state.proofs.Laws.{settings-seen}
 use Rattle.can_arrivals.specs.Choice.{Received}
 
--- a state that the lent arrays stand for; the pools do not matter
+-- a state that the lent arrays stand for; pools and errors do not matter
 abbrev pub some-state : ℕ → List ℕ → List Bool → List Bool → List Bool → List Bool → List ℕ → List ℕ → List ℕ → List ℕ → State can-format
 some-state count owners receivings pendings dones fulls payloads paddings codes masks =
-    record { core = core-in true 0 count [] [] [] owners receivings owners pendings dones fulls; settings = settings-in payloads paddings codes masks }
+    record { core = core-in true 0 count [] [] [] owners receivings owners pendings dones fulls [] [] []; settings = settings-in payloads paddings codes masks }
 
 pub state-received : (s : State can-format) (count : ℕ) (owners : List ℕ) (receivings pendings dones fulls : List Bool) (payloads paddings codes masks : List ℕ)
     → s .core .object-count ≡ count → Owned (s .core .owners) owners receivings → s .core .mailboxes ≡ mailboxes-in pendings dones fulls → s .settings ≡ settings-in payloads paddings codes masks

@@ -13,18 +13,21 @@ use types.Run.{OneOf}
 use Rattle.laws.proofs.Tests.{left, right}
 use Rattle.can_calls.specs.Request.{kind}
 use Rattle.can_calls.specs.declared.request.Function.{Function}
-use Rattle.can_calls.specs.declared.request.Function.the-variants.{Init, DeInit, Set, Get, Write, PollWrite, PollRead, PollMode, PollBusOff, Sent, BusOff, Arrived, Next}
+use Rattle.can_calls.specs.declared.request.Function.the-variants.{Init, DeInit, Set, Get, ErrorState, RxErrors, TxErrors, Write, PollWrite, PollRead, PollMode, PollBusOff, Sent, BusOff, ErrorCounts, Arrived, Next}
 use Rattle.can_calls.proofs.request.Function.{the-type}
 
 -- the function at a place
 abbrev pub at : ℕ → Function
-at n = getD (Init ∷ DeInit ∷ Set ∷ Get ∷ Write ∷ PollWrite ∷ PollRead ∷ PollMode ∷ PollBusOff ∷ Sent ∷ BusOff ∷ Arrived ∷ Next ∷ []) n Init
+at n = getD (Init ∷ DeInit ∷ Set ∷ Get ∷ ErrorState ∷ RxErrors ∷ TxErrors ∷ Write ∷ PollWrite ∷ PollRead ∷ PollMode ∷ PollBusOff ∷ Sent ∷ BusOff ∷ ErrorCounts ∷ Arrived ∷ Next ∷ []) n Init
 
 at-place : (f : Function) → at (tagOf the-type f) ≡ f
 at-place Init = refl
 at-place DeInit = refl
 at-place Set = refl
 at-place Get = refl
+at-place ErrorState = refl
+at-place RxErrors = refl
+at-place TxErrors = refl
 at-place Write = refl
 at-place PollWrite = refl
 at-place PollRead = refl
@@ -32,6 +35,7 @@ at-place PollMode = refl
 at-place PollBusOff = refl
 at-place Sent = refl
 at-place BusOff = refl
+at-place ErrorCounts = refl
 at-place Arrived = refl
 at-place Next = refl
 

@@ -6,10 +6,11 @@ use mathlib.Core.List.{List, []}
 use lib.Dec.{eqb}
 use Rattle.rules.specs.Core.{Core}
 use Rattle.rules.specs.State.{State}
+use Rattle.rules.specs.Outcome as rules
 use Rattle.rules.specs.Outcome.{Outcome, Answer, no-answer, judged, lifted}
 use Rattle.rules.specs.Services as services
 use Rattle.rules.specs.Events as events
-use Rattle.rules.specs.Calls.{set-controller-mode, get-controller-mode, tx-complete, bus-off-detected, next-to-send}
+use Rattle.rules.specs.Calls.{set-controller-mode, ask-controller, tx-complete, bus-off-detected, errors-counted, next-to-send}
 use Rattle.rules.specs.Can.{can-format}
 use Rattle.rules.specs.Chip.{chip}
 use Rattle.laws.proofs.Tests.{cond-map}
@@ -19,13 +20,22 @@ use Rattle.can_state.specs.View.{view}
 use Rattle.can_state.specs.declared.called.Called.{Called}
 use Rattle.core_answers.specs.Answer.{verdict-reason}
 use Rattle.core_answers.specs.Performed.{Performed}
-use Rattle.can_calls.specs.Answer.{answer-of}
+use Rattle.core_answers.specs.Reply.{question-of, question-answer}
+use Rattle.core_answers.specs.declared.question.Question.{Question}
+use Rattle.core_answers.specs.declared.reply.QuestionReply.{QuestionReply}
+use Rattle.core_answers.specs.declared.reply.QuestionReply.the-variants.{Answered, Rejected}
+use Rattle.can_calls.specs.Answer.{answer-of, number-told}
 use Rattle.can_calls.specs.declared.answer.Answer.the-variants.{Nothing}
 use Rattle.can_calls.specs.declared.perform.Played.{Played}
 
 -- what a call gave, against the outcome
 abbrev pub Gave : Outcome (State can-format) → Played → List ℕ → List ℕ → List ℕ → Type 0
 Gave o p ram before after = Performed o (verdict-reason (p .verdict)) (answer-of (p .answer)) (view (p .state)) (p .notifications) ram before after
+
+-- a question is answered with the number in its reply
+pub question-told : {q known : Question} {n : ℕ} (reply : QuestionReply) → q ≡ known → n ≡ number-told reply → rules.told (question-of known) n ≡ question-answer q reply
+question-told (Answered m) is number = rw (is, number)
+question-told (Rejected r) is number = rw (is, number)
 
 -- a verdict alone
 pub told : {o : Outcome (State can-format)} {called : Called} {played : Played} {ram before after : List ℕ}
@@ -92,10 +102,15 @@ module _ (s : State can-format) (c : ℕ) (ram : List ℕ) {reason : ℕ} {answe
   unfolding set-controller-mode services.set-controller-mode
   set-keeps n asked p = keeps ram (with-memory _ _ _ s ram) p
 
-  pub get-keeps : (n : ℕ) {before after : List ℕ} → Performed (get-controller-mode chip can-format s n [] c) reason answer state count [] before after
-      → Performed (get-controller-mode chip can-format s n ram c) reason answer state count ram before after
-  unfolding get-controller-mode services.get-controller-mode
-  get-keeps n p = keeps ram (with-memory _ _ _ s ram) p
+  pub ask-keeps : (q : rules.Question) (n : ℕ) {before after : List ℕ} → Performed (ask-controller chip can-format q s n [] c) reason answer state count [] before after
+      → Performed (ask-controller chip can-format q s n ram c) reason answer state count ram before after
+  unfolding ask-controller services.ask-controller
+  ask-keeps q n p = keeps ram (with-memory _ _ _ s ram) p
+
+  pub counted-keeps : (n tx rx : ℕ) {before after : List ℕ} → Performed (errors-counted chip can-format s n [] c tx rx) reason answer state count [] before after
+      → Performed (errors-counted chip can-format s n ram c tx rx) reason answer state count ram before after
+  unfolding errors-counted events.errors-counted
+  counted-keeps n tx rx p = keeps ram (with-memory _ _ _ s ram) p
 
   pub sent-keeps : (sheet : List ℕ) → Performed (tx-complete chip can-format s [] c) reason answer state count [] [] []
       → Performed (tx-complete chip can-format s ram c) reason answer state count ram sheet sheet

@@ -1,15 +1,19 @@
 // What a call answers beyond its verdict, for every call alike.
 ghost use mathlib.Core.Path.{_≡_};
 ghost use Rattle.core_answers.specs.Reply as replies;
-ghost use Rattle.can_calls.specs.Answer.{answer-of};
+ghost use Rattle.can_calls.specs.Answer.{answer-of, number-told};
 use can::ArrivalReply;
-use can::ModeReply;
 use can::NextReply;
+use can::Question;
+use can::QuestionReply;
 use can::WriteReply;
 
 pub enum Answer {
     Nothing,
     Mode(u32),
+    ErrorState(u32),
+    RxErrors(u32),
+    TxErrors(u32),
     TakenBy(u32),
     Stored(u32),
     Unwanted,
@@ -18,12 +22,25 @@ pub enum Answer {
     Nobody,
 }
 
-pub fn mode_answer(reply: ModeReply) -> Answer
-    ensures { λ r. ⌜ answer-of r ≡ replies.mode-answer reply ⌝ }
+// The number that a question of a controller is answered with: 0 with a no.
+fn number_told(reply: QuestionReply) -> u32
+    ensures { λ r. ⌜ r ≡ number-told reply ⌝ }
 {
     match reply {
-        ModeReply::Mode(m) => Answer::Mode(m as u32),
-        ModeReply::Rejected(_) => Answer::Mode(0),
+        QuestionReply::Answered(n) => n as u32,
+        QuestionReply::Rejected(_) => 0,
+    }
+}
+
+pub fn question_answer(question: Question, reply: QuestionReply) -> Answer
+    ensures { λ r. ⌜ answer-of r ≡ replies.question-answer question reply ⌝ }
+{
+    let number = number_told(reply);
+    match question {
+        Question::Mode => Answer::Mode(number),
+        Question::ErrorState => Answer::ErrorState(number),
+        Question::RxErrors => Answer::RxErrors(number),
+        Question::TxErrors => Answer::TxErrors(number),
     }
 }
 

@@ -8,16 +8,19 @@ ghost use Rattle.rules.specs.Chip.{chip};
 ghost use Rattle.can_state.specs.View.{view};
 ghost use Rattle.core_answers.specs.Answer.{verdict-reason};
 ghost use Rattle.core_answers.specs.Performed.{Performed};
+ghost use Rattle.core_answers.specs.Reply.{question-of, question-reason, question-answer};
 ghost use Rattle.can_calls.specs.Answer.{answer-of};
 ghost use Rattle.can_calls.specs.Request.{handle, frame, outcome, kind, SERVICE, POLL, EVENT};
 use crate::answer::Answer;
 use crate::answer::arrival_answer;
-use crate::answer::mode_answer;
 use crate::answer::next_answer;
+use crate::answer::question_answer;
 use crate::answer::write_answer;
 use crate::request::Function;
 use crate::request::Request;
+use can::Asked;
 use can::Called;
+use can::Question;
 use can::State;
 use can::Verdict;
 
@@ -43,16 +46,29 @@ fn with_verdict(called: Called) -> Played
     }
 }
 
-// GetControllerMode, which takes no memory.
-fn get(state: State, sheet: &mut [u32], controller: u32) -> Played
-    ensures { λ r. ⌜ Performed (rules.get-controller-mode chip can-format (view state) (length (now (sheet .entry))) [] controller)
+// A question of a controller, which takes no memory.
+fn ask(state: State, sheet: &mut [u32], question: Question, controller: u32) -> Asked
+    ensures { λ r. ⌜ Performed (rules.ask-controller chip can-format (question-of question) (view state) (length (now (sheet .entry))) [] controller)
+        (question-reason (r .reply)) (question-answer question (r .reply)) (view (r .state)) (r .notifications) [] (now (sheet .entry)) (now (sheet .exit)) ⌝ }
+{
+    match question {
+        Question::Mode => can::get_controller_mode(state, sheet, controller),
+        Question::ErrorState => can::get_controller_error_state(state, sheet, controller),
+        Question::RxErrors => can::get_controller_rx_error_counter(state, sheet, controller),
+        Question::TxErrors => can::get_controller_tx_error_counter(state, sheet, controller),
+    }
+}
+
+// The same, with its verdict and its answer.
+fn get(state: State, sheet: &mut [u32], question: Question, controller: u32) -> Played
+    ensures { λ r. ⌜ Performed (rules.ask-controller chip can-format (question-of question) (view state) (length (now (sheet .entry))) [] controller)
         (verdict-reason (r .verdict)) (answer-of (r .answer)) (view (r .state)) (r .notifications) [] (now (sheet .entry)) (now (sheet .exit)) ⌝ }
 {
-    let asked = can::get_controller_mode(state, sheet, controller);
+    let asked = ask(state, sheet, question, controller);
     let next = asked.state;
     let reply = asked.reply;
-    let verdict = can::mode_verdict(reply);
-    let answer = mode_answer(reply);
+    let verdict = can::question_verdict(reply);
+    let answer = question_answer(question, reply);
     Played {
         state: next,
         verdict: verdict,
@@ -149,7 +165,10 @@ fn service(state: State, ram: &mut [u8], sheet: &mut [u32], data: &[u8], request
             request.controller,
             request.number,
         )),
-        Function::Get => get(state, sheet, request.controller),
+        Function::Get => get(state, sheet, Question::Mode, request.controller),
+        Function::ErrorState => get(state, sheet, Question::ErrorState, request.controller),
+        Function::RxErrors => get(state, sheet, Question::RxErrors, request.controller),
+        Function::TxErrors => get(state, sheet, Question::TxErrors, request.controller),
         _ => write(state, ram, sheet, data, request),
     }
 }
@@ -179,6 +198,13 @@ fn event(state: State, ram: &mut [u8], sheet: &mut [u32], data: &[u8], request: 
     match function {
         Function::Sent => with_verdict(can::tx_complete(state, request.object)),
         Function::BusOff => with_verdict(can::bus_off_detected(state, request.controller)),
+        Function::ErrorCounts => with_verdict(can::errors_counted(
+            state,
+            sheet,
+            request.controller,
+            request.number,
+            request.receive,
+        )),
         _ => arrived(state, ram, sheet, data, request),
     }
 }
@@ -196,7 +222,7 @@ pub fn perform(
 {
     let function = request.function;
     match function {
-        Function::Sent | Function::BusOff | Function::Arrived => {
+        Function::Sent | Function::BusOff | Function::ErrorCounts | Function::Arrived => {
             event(state, ram, sheet, data, request)
         }
         Function::PollWrite | Function::PollRead | Function::PollMode | Function::PollBusOff => {

@@ -8,6 +8,9 @@ pub enum Function {
     DeInit,
     Set,
     Get,
+    ErrorState,
+    RxErrors,
+    TxErrors,
     Write,
     PollWrite,
     PollRead,
@@ -15,17 +18,20 @@ pub enum Function {
     PollBusOff,
     Sent,
     BusOff,
+    ErrorCounts,
     Arrived,
     Next,
 }
 
-// What the call names: its controller or its object, the handle of a frame or the mode asked for, and the identifier. What a function
-// does not take is not looked at. The bytes of a configuration or a frame come beside it.
+// What the call names: its controller or its object; a number, which is the handle of a frame, the mode asked for or the transmit count; the
+// receive count, which goes with a transmit count; and the identifier. What a function does not take is not looked at. The bytes of a
+// configuration or a frame come beside it.
 pub struct Request {
     pub function: Function,
     pub controller: u32,
     pub object: u32,
     pub number: u32,
+    pub receive: u32,
     pub identifier: u32,
 }
 

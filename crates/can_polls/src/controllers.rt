@@ -19,7 +19,7 @@ use core_answers::gate::full_gate;
 use core_polls::poll::poll_controllers;
 use core_polls::turn::Turn;
 
-// A poll over the controllers: the state with its controllers and mailboxes after the poll.
+// A poll over the controllers: the state with its controllers, their errors, and the mailboxes after the poll.
 fn polled(turn: Turn, state: State, ram: &[u8], sheet: &mut [u32]) -> Called
     ensures { λ r. ⌜ Performed
         (lifted (view state)
@@ -31,6 +31,9 @@ fn polled(turn: Turn, state: State, ram: &[u8], sheet: &mut [u32]) -> Called
     let mut modes = state.modes;
     let mut requests = state.requests;
     let mut marks = state.marks;
+    let mut recoverings = state.recoverings;
+    let mut tx_errors = state.tx_errors;
+    let mut rx_errors = state.rx_errors;
     let owners = state.owners;
     let mut pendings = state.pendings;
     let mut dones = state.dones;
@@ -42,6 +45,9 @@ fn polled(turn: Turn, state: State, ram: &[u8], sheet: &mut [u32]) -> Called
         &mut modes,
         &mut requests,
         &mut marks,
+        &mut recoverings,
+        &mut tx_errors,
+        &mut rx_errors,
         state.object_count,
         &owners,
         &mut pendings,
@@ -55,6 +61,9 @@ fn polled(turn: Turn, state: State, ram: &[u8], sheet: &mut [u32]) -> Called
     next.modes = modes;
     next.requests = requests;
     next.marks = marks;
+    next.recoverings = recoverings;
+    next.tx_errors = tx_errors;
+    next.rx_errors = rx_errors;
     next.pendings = pendings;
     next.dones = dones;
     next.fulls = fulls;
@@ -67,7 +76,7 @@ fn polled(turn: Turn, state: State, ram: &[u8], sheet: &mut [u32]) -> Called
 }
 
 // Mode poll: each controller that is not marked off-bus enters the mode that is requested of it. One that leaves STARTED has its pending
-// objects cancelled and freed before its mode is told.
+// objects closed and freed before its mode is told; one that enters STARTED begins without errors.
 pub fn main_function_mode(state: State, ram: &[u8], sheet: &mut [u32]) -> Called
     ensures { λ r. ⌜ Performed
         (rules.main-function-mode chip can-format (view state) (length (now (sheet .entry))) (now (ram .entry)))
@@ -76,7 +85,8 @@ pub fn main_function_mode(state: State, ram: &[u8], sheet: &mut [u32]) -> Called
     polled(Turn::ModeChange, state, ram, sheet)
 }
 
-// Bus-off poll: each marked controller has its pending objects cancelled and freed, is told of, and is STOPPED.
+// Bus-off poll: each marked controller has its pending objects closed and freed, is told of, and is STOPPED; its error state stays bus-off
+// until it is STARTED.
 pub fn main_function_bus_off(state: State, ram: &[u8], sheet: &mut [u32]) -> Called
     ensures { λ r. ⌜ Performed
         (rules.main-function-bus-off chip can-format (view state) (length (now (sheet .entry))) (now (ram .entry)))

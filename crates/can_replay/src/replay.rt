@@ -61,6 +61,9 @@ fn event(
     modes: &mut [u8; CONTROLLERS],
     requests: &mut [u8; CONTROLLERS],
     marks: &mut [bool; CONTROLLERS],
+    recoverings: &mut [bool; CONTROLLERS],
+    tx_errors: &mut [u32; CONTROLLERS],
+    rx_errors: &mut [u32; CONTROLLERS],
     owners: &mut [u8; OBJECTS],
     receivings: &mut [bool; OBJECTS],
     pools: &mut [u8; OBJECTS],
@@ -76,7 +79,7 @@ fn event(
 )
     requires { ⌜ i < event-count (events-in (now kinds) (now places) (now values) (now handles) (now starts) (now ends) (now «data»)) ⌝ }
     requires { ⌜ Stands
-        (gathered (now initialised) (now «controller_count») (now «object_count») (now modes) (now requests) (now marks) (now owners) (now receivings) (now pools) (now pendings) (now dones) (now fulls) (now payloads) (now paddings)
+        (gathered (now initialised) (now «controller_count») (now «object_count») (now modes) (now requests) (now marks) (now recoverings) (now «tx_errors») (now «rx_errors») (now owners) (now receivings) (now pools) (now pendings) (now dones) (now fulls) (now payloads) (now paddings)
         (now codes) (now masks)) ⌝ }
     ensures { λ _. ⌜ Stepped
         (made-at
@@ -84,10 +87,10 @@ fn event(
         (now («data» .entry))) i
         (whole
         (view
-        (gathered (now (initialised .entry)) (now («controller_count» .entry)) (now («object_count» .entry)) (now (modes .entry)) (now (requests .entry)) (now (marks .entry)) (now (owners .entry)) (now (receivings .entry))
+        (gathered (now (initialised .entry)) (now («controller_count» .entry)) (now («object_count» .entry)) (now (modes .entry)) (now (requests .entry)) (now (marks .entry)) (now (recoverings .entry)) (now («tx_errors» .entry)) (now («rx_errors» .entry)) (now (owners .entry)) (now (receivings .entry))
         (now (pools .entry)) (now (pendings .entry)) (now (dones .entry)) (now (fulls .entry)) (now (payloads .entry)) (now (paddings .entry)) (now (codes .entry)) (now (masks .entry))))
         (now (ram .entry)) (now (sheet .entry))))
-        (gathered (now (initialised .exit)) (now («controller_count» .exit)) (now («object_count» .exit)) (now (modes .exit)) (now (requests .exit)) (now (marks .exit)) (now (owners .exit)) (now (receivings .exit))
+        (gathered (now (initialised .exit)) (now («controller_count» .exit)) (now («object_count» .exit)) (now (modes .exit)) (now (requests .exit)) (now (marks .exit)) (now (recoverings .exit)) (now («tx_errors» .exit)) (now («rx_errors» .exit)) (now (owners .exit)) (now (receivings .exit))
         (now (pools .exit)) (now (pendings .exit)) (now (dones .exit)) (now (fulls .exit)) (now (payloads .exit)) (now (paddings .exit)) (now (codes .exit)) (now (masks .exit)))
         (now (ram .exit)) (now (sheet .exit)) ⌝ }
 {
@@ -106,6 +109,9 @@ fn event(
         modes,
         requests,
         marks,
+        recoverings,
+        tx_errors,
+        rx_errors,
         owners,
         receivings,
         pools,
@@ -136,6 +142,9 @@ fn play(
     modes: &mut [u8; CONTROLLERS],
     requests: &mut [u8; CONTROLLERS],
     marks: &mut [bool; CONTROLLERS],
+    recoverings: &mut [bool; CONTROLLERS],
+    tx_errors: &mut [u32; CONTROLLERS],
+    rx_errors: &mut [u32; CONTROLLERS],
     owners: &mut [u8; OBJECTS],
     receivings: &mut [bool; OBJECTS],
     pools: &mut [u8; OBJECTS],
@@ -150,11 +159,11 @@ fn play(
     sheet: &mut [u32],
 )
     requires { ⌜ Stands
-        (gathered (now initialised) (now «controller_count») (now «object_count») (now modes) (now requests) (now marks) (now owners) (now receivings) (now pools) (now pendings) (now dones) (now fulls) (now payloads) (now paddings)
+        (gathered (now initialised) (now «controller_count») (now «object_count») (now modes) (now requests) (now marks) (now recoverings) (now «tx_errors») (now «rx_errors») (now owners) (now receivings) (now pools) (now pendings) (now dones) (now fulls) (now payloads) (now paddings)
         (now codes) (now masks)) ⌝ }
     ensures { λ _. ⌜ whole
         (view
-        (gathered (now (initialised .exit)) (now («controller_count» .exit)) (now («object_count» .exit)) (now (modes .exit)) (now (requests .exit)) (now (marks .exit)) (now (owners .exit)) (now (receivings .exit))
+        (gathered (now (initialised .exit)) (now («controller_count» .exit)) (now («object_count» .exit)) (now (modes .exit)) (now (requests .exit)) (now (marks .exit)) (now (recoverings .exit)) (now («tx_errors» .exit)) (now («rx_errors» .exit)) (now (owners .exit)) (now (receivings .exit))
         (now (pools .exit)) (now (pendings .exit)) (now (dones .exit)) (now (fulls .exit)) (now (payloads .exit)) (now (paddings .exit)) (now (codes .exit)) (now (masks .exit))))
         (now (ram .exit)) (now (sheet .exit))
         ≡ all-replayed
@@ -162,7 +171,7 @@ fn play(
         (now («data» .entry)))
         (whole
         (view
-        (gathered (now (initialised .entry)) (now («controller_count» .entry)) (now («object_count» .entry)) (now (modes .entry)) (now (requests .entry)) (now (marks .entry)) (now (owners .entry)) (now (receivings .entry))
+        (gathered (now (initialised .entry)) (now («controller_count» .entry)) (now («object_count» .entry)) (now (modes .entry)) (now (requests .entry)) (now (marks .entry)) (now (recoverings .entry)) (now («tx_errors» .entry)) (now («rx_errors» .entry)) (now (owners .entry)) (now (receivings .entry))
         (now (pools .entry)) (now (pendings .entry)) (now (dones .entry)) (now (fulls .entry)) (now (payloads .entry)) (now (paddings .entry)) (now (codes .entry)) (now (masks .entry))))
         (now (ram .entry)) (now (sheet .entry))) ⌝ }
 {
@@ -183,6 +192,9 @@ fn play(
             modes,
             requests,
             marks,
+            recoverings,
+            tx_errors,
+            rx_errors,
             owners,
             receivings,
             pools,
@@ -227,6 +239,9 @@ pub fn replay(
     let mut modes = state.modes;
     let mut requests = state.requests;
     let mut marks = state.marks;
+    let mut recoverings = state.recoverings;
+    let mut tx_errors = state.tx_errors;
+    let mut rx_errors = state.rx_errors;
     let mut owners = state.owners;
     let mut receivings = state.receivings;
     let mut pools = state.pools;
@@ -251,6 +266,9 @@ pub fn replay(
         &mut modes,
         &mut requests,
         &mut marks,
+        &mut recoverings,
+        &mut tx_errors,
+        &mut rx_errors,
         &mut owners,
         &mut receivings,
         &mut pools,
@@ -271,6 +289,9 @@ pub fn replay(
         modes: modes,
         requests: requests,
         marks: marks,
+        recoverings: recoverings,
+        tx_errors: tx_errors,
+        rx_errors: rx_errors,
         owners: owners,
         receivings: receivings,
         pools: pools,

@@ -30,7 +30,7 @@ fn stopped_modes(count: usize) -> [u8; CONTROLLERS]
     modes
 }
 
-// The controllers in use are STOPPED, nothing is requested of them, and nothing waits in any object.
+// The controllers in use are STOPPED, nothing is requested of them, they have no errors, and nothing waits in any object.
 pub fn configured_state(setup: Setup) -> State
     ensures { λ r. ⌜ view r ≡ rules.configured-state chip can-format (view-setup setup) ⌝ }
 {
@@ -49,6 +49,9 @@ pub fn configured_state(setup: Setup) -> State
         modes: modes,
         requests: [NO_REQUEST; CONTROLLERS],
         marks: [false; CONTROLLERS],
+        recoverings: [false; CONTROLLERS],
+        tx_errors: [0; CONTROLLERS],
+        rx_errors: [0; CONTROLLERS],
         owners: owners,
         receivings: receivings,
         pools: pools,

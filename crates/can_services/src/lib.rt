@@ -2,7 +2,7 @@
 // Init and DeInit replace the whole state.
 mod configured;
 pub mod deinit;
-pub mod get_controller_mode;
 pub mod init;
+pub mod questions;
 mod refusal;
 pub mod set_controller_mode;

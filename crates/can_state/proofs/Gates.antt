@@ -5,6 +5,7 @@ use mathlib.Core.Bool.{Bool, true, not}
 use mathlib.Core.List.{List, [], _∷_}
 use lib.ListN.{length}
 use lib.Dec.{eqb, ltb}
+use borrow.Author.Tests.{ltb-false}
 use Rattle.rules.specs.Limits.{sheet-size, ram-size}
 use Rattle.rules.specs.Reason.{_if_, first-reason, reasons-named, INVALID-STATE, SHEET-TOO-SHORT, WRONG-RAM-SIZE}
 use Rattle.rules.specs.Core.{Core}
@@ -59,6 +60,11 @@ pub sheet-passed : (s : State) (sheet : ℕ) → sheet-gate chip can-format (vie
 unfolding sheet-gate reasons-named
 sheet-passed s sheet e =
     within s (not-false (rules.valid chip can-format (view s)) (check-passed 0 (state-check chip can-format (view s) ∷ sheet-check chip can-format sheet ∷ []) refl e))
+
+-- and its sheet has the required size
+pub sheet-room : (s : State) (sheet : ℕ) → sheet-gate chip can-format (view s) sheet ≡ 0 → sheet-size chip ≤ sheet
+unfolding sheet-gate reasons-named
+sheet-room s sheet e = ltb-false sheet (sheet-size chip) (check-passed 1 (state-check chip can-format (view s) ∷ sheet-check chip can-format sheet ∷ []) refl e)
 
 -- and a call with sheet and memory has room besides
 pub record Passed (s : State) (sheet : ℕ) (ram : List ℕ) : Type 0 where

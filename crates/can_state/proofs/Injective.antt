@@ -7,11 +7,11 @@ use mathlib.Core.Bool.{Bool, false}
 use mathlib.Core.List.{List}
 use lib.ListN.{length, getD}
 use lib.Seq.{ext-getD}
-use Rattle.rules.specs.Core.{controller-at, owner-at, mailbox-at}
+use Rattle.rules.specs.Core.{controller-at, errors-at, owner-at, mailbox-at}
 use Rattle.rules.specs.Configuration.{settings-at}
 use Rattle.rules.specs.State as rules
 use Rattle.rules.specs.Can as can
-use Rattle.core_places.proofs.Laws.{controller-seen, owner-seen, mailbox-seen}
+use Rattle.core_places.proofs.Laws.{controller-seen, errors-seen, owner-seen, mailbox-seen}
 use Rattle.can_state.specs.declared.state.State.{State}
 use Rattle.can_state.specs.View.{view}
 use Rattle.can_state.specs.Sizes.{Sized}
@@ -21,6 +21,9 @@ use Rattle.can_state.proofs.Laws.{settings-seen}
 module _ (s : State) (sized : Sized s) (i : ℕ) where
   controller : controller-at (view s .core .controllers) i ≡ record { mode = getD (s .modes) i 0; requested-mode = getD (s .requests) i 0; bus-off = getD (s .marks) i false }
   controller = controller-seen (s .modes) (s .requests) (s .marks) i (omega arith)
+
+  errors : errors-at (view s .core .errors) i ≡ record { recovering = getD (s .recoverings) i false; tx-errors = getD (s .«tx_errors») i 0; rx-errors = getD (s .«rx_errors») i 0 }
+  errors = errors-seen (s .recoverings) (s .«tx_errors») (s .«rx_errors») i (record { second = omega arith; third = omega arith })
 
   owner : owner-at (view s .core .owners) i ≡ record { controller = getD (s .owners) i 0; receiving = getD (s .receivings) i false; pool = getD (s .pools) i 0 }
   owner = owner-seen (s .owners) (s .receivings) (s .pools) i (record { second = omega arith; third = omega arith })
@@ -57,6 +60,9 @@ module _ (s t : State) (m : Sized s) (n : Sized t) (e : view s ≡ view t) where
         modes = numbers (λ u. u .modes) (λ v p. controller-at (v .core .controllers) p .mode) (omega arith) (λ u z p j. controller u z p j .mode) i;
         requests = numbers (λ u. u .requests) (λ v p. controller-at (v .core .controllers) p .requested-mode) (omega arith) (λ u z p j. controller u z p j .requested-mode) i;
         marks = flags (λ u. u .marks) (λ v p. controller-at (v .core .controllers) p .bus-off) (omega arith) (λ u z p j. controller u z p j .bus-off) i;
+        recoverings = flags (λ u. u .recoverings) (λ v p. errors-at (v .core .errors) p .recovering) (omega arith) (λ u z p j. errors u z p j .recovering) i;
+        «tx_errors» = numbers (λ u. u .«tx_errors») (λ v p. errors-at (v .core .errors) p .tx-errors) (omega arith) (λ u z p j. errors u z p j .tx-errors) i;
+        «rx_errors» = numbers (λ u. u .«rx_errors») (λ v p. errors-at (v .core .errors) p .rx-errors) (omega arith) (λ u z p j. errors u z p j .rx-errors) i;
         owners = numbers (λ u. u .owners) (λ v p. owner-at (v .core .owners) p .controller) (omega arith) (λ u z p j. owner u z p j .controller) i;
         receivings = flags (λ u. u .receivings) (λ v p. owner-at (v .core .owners) p .receiving) (omega arith) (λ u z p j. owner u z p j .receiving) i;
         pools = numbers (λ u. u .pools) (λ v p. owner-at (v .core .owners) p .pool) (omega arith) (λ u z p j. owner u z p j .pool) i;

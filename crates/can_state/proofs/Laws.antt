@@ -2,12 +2,12 @@
 use Prim.Native.Nat.{ℕ, _+_, _≤_, _<_, min}
 use native.Mathlib.Omega.{arith}
 use mathlib.Core.Path.{_≡_, refl, sym, ap, ap₂, _∙_}
-use mathlib.Core.Bool.{Bool, true, false, cond, _&&_, _||_, and-true, and-assoc}
+use mathlib.Core.Bool.{Bool, true, false, cond, _&&_, _||_, and-true, and-assoc, and-comm}
 use mathlib.Core.Logic.{_⊎_, inl, inr}
 use mathlib.Core.List.{List}
 use lib.ListN.{length, getD, List·getD-eq-default}
 use lib.Dec.{ltb}
-use borrow.Author.Tests.{lt-ltb, le-ltb, ltb-true, ltb-false, eq-eqb}
+use borrow.Author.Tests.{ltb-true, eq-eqb}
 use Rattle.rules.specs.Configuration.{settings-at, settings-place-valid, settings-agreed}
 use Rattle.rules.specs.Repeat.{all-below}
 use Rattle.rules.specs.Core.{Owner, Core, owner-at, lowest-of, pool-valid}
@@ -19,8 +19,9 @@ use Rattle.laws.proofs.Tests.{both, left, decide, under}
 use Rattle.laws.proofs.Repeat.{facts-all}
 use Rattle.core_places.specs.Arrays.{Alike, owners-in}
 use Rattle.core_places.proofs.Laws.{zip-4-length, zip-4-at, owner-seen, owned-in}
+pub use Rattle.core_places.proofs.Laws.{limited-count}
 use Rattle.core_validity.specs.Arrays.{limits-of}
-use Rattle.core_validity.specs.Tests.{places-valid}
+use Rattle.core_validity.specs.Tests.{places-valid, errors-places-valid}
 use Rattle.core_validity.specs.Pools.{Tabled, lowest-seen, pool-beside, own-pools, pools-valid}
 use Rattle.core_validity.proofs.LowestTable.{seen-lowest, beside-valid}
 use Rattle.core_validity.proofs.OwnPools.{own-lowest, own-valid}
@@ -110,14 +111,6 @@ module _ (owners : List ℕ) (receivings : List Bool) (pools payloads paddings :
           rw (owned-in owners receivings pools alike .kind-is h, sends, own-lowest owners receivings pools alike n own h used sends)
           (both (eq-eqb (s .payload) (s .payload) refl) (eq-eqb (s .padding) (s .padding) refl))
 
--- A count past the last place asks no more than that place does.
-pub limited-count : (i n count : ℕ) → i < n → ltb i count ≡ ltb i (min count n)
-limited-count i n count l = go (ltb i count) refl
-  where
-    go : (b : Bool) → ltb i count ≡ b → b ≡ ltb i (min count n)
-    go true e = let below = ltb-true i count e in sym (lt-ltb i (min count n) (omega arith))
-    go false e = let past = ltb-false i count e in sym (le-ltb i (min count n) (omega arith))
-
 -- The settings in use and the others are all settings.
 pub settings-parts : (count : ℕ) (owners : List ℕ) (receivings : List Bool) (pools : List ℕ) (ss : List can.Settings) → Alike owners receivings pools
     → length ss ≡ chip .objects
@@ -137,14 +130,18 @@ same-places : (core : Core) → places-valid (limits-of (chip .controllers) (chi
 unfolding places-valid
 same-places core = refl
 
--- The tests of the places, of all settings and of the pools are the test of the state.
-pub valid-parts : (s : State) → Sized s → {a b c : Bool}
+last-to-second : (a b c : Bool) → (a && b && c) ≡ (a && c && b)
+last-to-second a b c = and-assoc a b c ∙ ap (λ (t : Bool). a && t) (and-comm b c) ∙ sym (and-assoc a c b)
+
+-- The tests of the places, of all settings, of the pools and of all errors are the test of the state.
+pub valid-parts : (s : State) → Sized s → {a b c d : Bool}
     → a ≡ places-valid (limits-of (length (s .modes)) (length (s .owners))) (view s .core)
     → b ≡ settings-places-valid (s .«object_count») (view s .core .owners) (view s .settings)
     → c ≡ pools-agreed (min (s .«object_count») (length (s .owners))) (view s .core .owners) (view s .settings)
-    → (a && b && c) ≡ valid chip can-format (view s)
+    → d ≡ errors-places-valid (length (s .modes)) (s .«controller_count») (view s .core .controllers) (view s .core .errors)
+    → (a && b && c && d) ≡ valid chip can-format (view s)
 unfolding valid
-valid-parts s sized a-is b-is c-is =
+valid-parts s sized a-is b-is c-is d-is =
     let alike : SettingsAlike (s .payloads) (s .paddings) (s .codes) (s .masks) = record { three = omega arith; fourth = omega arith } in
     let full : length (view s .settings) ≡ chip .objects = settings-length (s .payloads) (s .paddings) (s .codes) (s .masks) alike ∙ sized .payloads in
     let core = view s .core in
@@ -155,12 +152,19 @@ valid-parts s sized a-is b-is c-is =
     let settings = settings-places-valid count os ss in
     let pooled = pools-valid (chip .objects) os count in
     let agreed = settings-agreed can-format count os ss in
+    let errors = errors-places-valid (chip .controllers) (s .«controller_count») (core .controllers) (core .errors) in
     let counted : places ≡ true → min count (length (s .owners)) ≡ count = λ t. let within = places-within chip core t in omega (arith, within, sized .owners) in
-    ap₂ _&&_ (ap₂ _&&_ a-is b-is) c-is
-    ∙ ap₂ (λ (c o : ℕ). places-valid (limits-of c o) core && settings && pools-agreed (min count (length (s .owners))) os ss) (sized .modes) (sized .owners)
-    ∙ rw (same-places core)
+    let tested : (places-valid (limits-of (chip .controllers) (chip .objects)) core && settings && pools-agreed (min count (length (s .owners))) os ss)
+    ≡ (places && pooled && (settings && agreed)) =
+    rw (same-places core)
     (and-assoc places settings (pools-agreed (min count (length (s .owners))) os ss)
     ∙ under places (λ t. ap (λ (n : ℕ). settings && pools-agreed n os ss) (counted t))
     ∙ sym (and-assoc places settings (pooled && agreed))
-    ∙ and-pairs places settings pooled agreed
-    ∙ rw (core-parts chip core, eq-eqb (length ss) (chip .objects) full, and-true (places && pooled)))
+    ∙ and-pairs places settings pooled agreed)
+    in
+    ap₂ _&&_ (ap₂ _&&_ (ap₂ _&&_ a-is b-is) c-is) d-is
+    ∙ ap₂ (λ (c o : ℕ). places-valid (limits-of c o) core && settings && pools-agreed (min count (length (s .owners))) os ss && errors-places-valid c (s .«controller_count») (core .controllers) (core .errors))
+    (sized .modes) (sized .owners)
+    ∙ ap (λ (b : Bool). b && errors) tested
+    ∙ last-to-second (places && pooled) (settings && agreed) errors
+    ∙ rw (core-parts chip core, eq-eqb (length ss) (chip .objects) full, and-true (places && pooled && errors))

@@ -20,6 +20,6 @@ view s =
     record {
       core =
           core-in (s .initialised) (s .«controller_count») (s .«object_count») (s .modes) (s .requests) (s .marks) (s .owners) (s .receivings)
-          (s .pools) (s .pendings) (s .dones) (s .fulls);
+          (s .pools) (s .pendings) (s .dones) (s .fulls) (s .recoverings) (s .«tx_errors») (s .«rx_errors»);
       settings = settings-in (s .payloads) (s .paddings) (s .codes) (s .masks);
     }

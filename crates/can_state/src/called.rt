@@ -1,7 +1,7 @@
 // What a call hands back: the next state, its answer, and how many notifications it wrote on the sheet.
 use crate::state::State;
 use core_answers::reply::ArrivalReply;
-use core_answers::reply::ModeReply;
+use core_answers::reply::QuestionReply;
 use core_answers::reply::WriteReply;
 use core_answers::verdict::Verdict;
 
@@ -12,10 +12,10 @@ pub struct Called {
     pub notifications: usize,
 }
 
-// GetControllerMode.
-pub struct ModeAsked {
+// A question of a controller.
+pub struct Asked {
     pub state: State,
-    pub reply: ModeReply,
+    pub reply: QuestionReply,
     pub notifications: usize,
 }
 

@@ -13,10 +13,14 @@ pub struct State {
     // So many are in use.
     pub controller_count: usize,
     pub object_count: usize,
-    // Of each controller: its mode, its waiting request, its off-bus mark.
+    // Of each controller: its mode, its waiting request, its off-bus mark;
     pub modes: [u8; CONTROLLERS],
     pub requests: [u8; CONTROLLERS],
     pub marks: [bool; CONTROLLERS],
+    // its second mark and its error counts.
+    pub recoverings: [bool; CONTROLLERS],
+    pub tx_errors: [u32; CONTROLLERS],
+    pub rx_errors: [u32; CONTROLLERS],
     // Of each object: its controller, whether it receives, and its pool;
     pub owners: [u8; OBJECTS],
     pub receivings: [bool; OBJECTS],
@@ -43,6 +47,9 @@ pub fn initial_state() -> State
         modes: [0; CONTROLLERS],
         requests: [0; CONTROLLERS],
         marks: [false; CONTROLLERS],
+        recoverings: [false; CONTROLLERS],
+        tx_errors: [0; CONTROLLERS],
+        rx_errors: [0; CONTROLLERS],
         owners: [0; OBJECTS],
         receivings: [false; OBJECTS],
         pools: [0; OBJECTS],

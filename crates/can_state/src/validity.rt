@@ -7,6 +7,7 @@ ghost use Rattle.can_state.specs.View.{view};
 use crate::agreement::pools_agree;
 use crate::settings::settings_places_valid;
 use crate::state::State;
+use core_validity::errors::errors_places_valid;
 use core_validity::validity::places_valid;
 
 // Whether the state is one that the driver can be in: reason 41 applies to every other.
@@ -16,6 +17,9 @@ pub fn valid(s: State) -> bool
     let modes = s.modes;
     let requests = s.requests;
     let marks = s.marks;
+    let recoverings = s.recoverings;
+    let tx_errors = s.tx_errors;
+    let rx_errors = s.rx_errors;
     let owners = s.owners;
     let receivings = s.receivings;
     let pools = s.pools;
@@ -56,5 +60,14 @@ pub fn valid(s: State) -> bool
         &paddings,
         s.object_count,
     );
-    core & settings & pooled
+    let errors = errors_places_valid(
+        s.controller_count,
+        &modes,
+        &requests,
+        &marks,
+        &recoverings,
+        &tx_errors,
+        &rx_errors,
+    );
+    core & settings & pooled & errors
 }

@@ -45,6 +45,10 @@ module _ (s : State can-format) (v : valid chip can-format s ≡ true) {r : ℕ}
   unfolding full-gate
   full-gate-is sheet ram e = e ∙ rw v
 
+pub sheet-passed : (sheet : ℕ) {r : ℕ} → r ≡ first-reason (sheet-checks sheet) → r ≡ 0 → sheet-size chip ≤ sheet
+unfolding reasons-named
+sheet-passed sheet e none = ltb-false sheet (sheet-size chip) (check-passed 1 (sheet-checks sheet) refl (sym e ∙ none))
+
 -- what passes has a sheet and a memory of the chip's size
 pub record Lent (sheet : ℕ) (ram : List ℕ) : Type 0 where
   pub sheet-holds : sheet-size chip ≤ sheet

@@ -4,8 +4,8 @@ use mathlib.Core.Bool.{Bool}
 use mathlib.Core.List.{List}
 use Rattle.can_state.specs.declared.state.State.{State}
 
-abbrev pub gathered : Bool → ℕ → ℕ → List ℕ → List ℕ → List Bool → List ℕ → List Bool → List ℕ → List Bool → List Bool → List Bool → List ℕ → List ℕ → List ℕ → List ℕ → State
-gathered initialised controller-count object-count modes requests marks owners receivings pools pendings dones fulls payloads paddings codes masks =
+abbrev pub gathered : Bool → ℕ → ℕ → List ℕ → List ℕ → List Bool → List Bool → List ℕ → List ℕ → List ℕ → List Bool → List ℕ → List Bool → List Bool → List Bool → List ℕ → List ℕ → List ℕ → List ℕ → State
+gathered initialised controller-count object-count modes requests marks recoverings tx-errors rx-errors owners receivings pools pendings dones fulls payloads paddings codes masks =
     record {
       initialised = initialised;
       «controller_count» = controller-count;
@@ -13,6 +13,9 @@ gathered initialised controller-count object-count modes requests marks owners r
       modes = modes;
       requests = requests;
       marks = marks;
+      recoverings = recoverings;
+      «tx_errors» = tx-errors;
+      «rx_errors» = rx-errors;
       owners = owners;
       receivings = receivings;
       pools = pools;

@@ -4,17 +4,19 @@ ghost use mathlib.Core.Bool.{true};
 ghost use mathlib.Core.List.{List};
 ghost use Prim.Native.Nat.{ℕ, _≤_};
 ghost use lib.ListN.{length};
-ghost use Rattle.rules.specs.Core.{with-controllers, with-mailboxes};
+ghost use Rattle.rules.specs.Core.{with-controllers, with-mailboxes, with-errors};
 ghost use Rattle.rules.specs.State as rules;
 ghost use Rattle.rules.specs.Calls as calls;
 ghost use Rattle.rules.specs.Can.{can-format};
 ghost use Rattle.rules.specs.Chip.{chip};
-ghost use Rattle.core_places.specs.Arrays.{controllers-in, mailboxes-in};
+ghost use Rattle.core_places.specs.Arrays.{controllers-in, errors-in, mailboxes-in};
 ghost use Rattle.core_places.specs.Held.{Controlled, Held};
 ghost use Rattle.history.specs.Replay.{whole, whole-of};
 ghost use Rattle.can_step.specs.Places.{Places};
 use can_chip::CONTROLLERS;
 use can_chip::OBJECTS;
+use can_chip::SHEET_SIZE;
+use core_answers::gate::sheet_gate;
 use core_answers::gate::state_gate;
 
 // TxComplete.
@@ -83,5 +85,51 @@ pub fn off(
         requests,
         marks,
         controller,
+    );
+}
+
+// Error counts.
+pub fn counted(
+    initialised: bool,
+    controller_count: usize,
+    modes: &mut [u8; CONTROLLERS],
+    requests: &mut [u8; CONTROLLERS],
+    marks: &mut [bool; CONTROLLERS],
+    recoverings: &mut [bool; CONTROLLERS],
+    tx_errors: &mut [u32; CONTROLLERS],
+    rx_errors: &mut [u32; CONTROLLERS],
+    sheet: &mut [u32],
+    controller: u32,
+    transmit: u32,
+    receive: u32,
+)
+    requires { ⌜ («controller_count» ≤ chip .controllers) × Places (chip .controllers) (now modes) (now requests) (now marks)
+        × Places (chip .controllers) (now recoverings) (now «tx_errors») (now «rx_errors») ⌝ }
+    ensures left { λ _. ⌜ ((s : rules.State can-format) (ram : List ℕ) → rules.valid chip can-format s ≡ true
+        → Controlled (s .core) initialised «controller_count» (controllers-in (now (modes .entry)) (now (requests .entry)) (now (marks .entry)))
+        → s .core .errors ≡ errors-in (now (recoverings .entry)) (now («tx_errors» .entry)) (now («rx_errors» .entry))
+        → whole
+        (rules.with-core s
+        (with-errors (with-controllers (s .core) (controllers-in (now (modes .exit)) (now (requests .exit)) (now (marks .exit))))
+        (errors-in (now (recoverings .exit)) (now («tx_errors» .exit)) (now («rx_errors» .exit))))) ram (now (sheet .exit))
+        ≡ whole-of (calls.errors-counted chip can-format s (length (now (sheet .entry))) ram controller transmit receive) (now (sheet .entry))) ⌝ }
+    ensures places { λ _. ⌜ Places (chip .controllers) (now (modes .exit)) (now (requests .exit)) (now (marks .exit))
+        × Places (chip .controllers) (now (recoverings .exit)) (now («tx_errors» .exit)) (now («rx_errors» .exit)) ⌝ }
+{
+    let gate = sheet_gate(true, sheet.len(), SHEET_SIZE);
+    core_events::errors_counted::errors_counted(
+        gate,
+        initialised,
+        controller_count,
+        modes,
+        requests,
+        marks,
+        recoverings,
+        tx_errors,
+        rx_errors,
+        sheet,
+        controller,
+        transmit,
+        receive,
     );
 }

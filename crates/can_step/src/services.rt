@@ -1,4 +1,4 @@
-// The services on a controller's mode over lent arrays, on a state that is valid.
+// The services on a controller over lent arrays, on a state that is valid.
 ghost use mathlib.Core.Path.{_≡_};
 ghost use mathlib.Core.Bool.{true};
 ghost use mathlib.Core.List.{List};
@@ -9,13 +9,16 @@ ghost use Rattle.rules.specs.State as rules;
 ghost use Rattle.rules.specs.Calls as calls;
 ghost use Rattle.rules.specs.Can.{can-format};
 ghost use Rattle.rules.specs.Chip.{chip};
-ghost use Rattle.core_places.specs.Arrays.{controllers-in};
+ghost use Rattle.core_places.specs.Arrays.{controllers-in, errors-in};
 ghost use Rattle.core_places.specs.Held.{Controlled};
+ghost use Rattle.core_answers.specs.Reply.{question-of};
 ghost use Rattle.history.specs.Replay.{whole, whole-of};
 ghost use Rattle.can_step.specs.Places.{Places};
 use can_chip::CONTROLLERS;
 use can_chip::SHEET_SIZE;
 use core_answers::gate::sheet_gate;
+use core_answers::question::Question;
+use core_services::ask_controller::ask_controller;
 
 // SetControllerMode.
 pub fn set_mode(
@@ -49,29 +52,39 @@ pub fn set_mode(
     );
 }
 
-// GetControllerMode.
-pub fn get_mode(
+// A question of a controller.
+pub fn ask(
+    question: Question,
     initialised: bool,
     controller_count: usize,
     modes: &[u8; CONTROLLERS],
     requests: &[u8; CONTROLLERS],
     marks: &[bool; CONTROLLERS],
+    recoverings: &[bool; CONTROLLERS],
+    tx_errors: &[u32; CONTROLLERS],
+    rx_errors: &[u32; CONTROLLERS],
     sheet: &mut [u32],
     controller: u32,
 )
-    requires { ⌜ Places (chip .controllers) (now modes) (now requests) (now marks) ⌝ }
+    requires { ⌜ Places (chip .controllers) (now modes) (now requests) (now marks) × Places (chip .controllers) (now recoverings) (now «tx_errors») (now «rx_errors») ⌝ }
     ensures { λ _. ⌜ ((s : rules.State can-format) (ram : List ℕ) → rules.valid chip can-format s ≡ true
         → Controlled (s .core) initialised «controller_count» (controllers-in (now (modes .entry)) (now (requests .entry)) (now (marks .entry)))
-        → whole s ram (now (sheet .exit)) ≡ whole-of (calls.get-controller-mode chip can-format s (length (now (sheet .entry))) ram controller) (now (sheet .entry))) ⌝ }
+        → s .core .errors ≡ errors-in (now (recoverings .entry)) (now («tx_errors» .entry)) (now («rx_errors» .entry))
+        → whole s ram (now (sheet .exit))
+        ≡ whole-of (calls.ask-controller chip can-format (question-of question) s (length (now (sheet .entry))) ram controller) (now (sheet .entry))) ⌝ }
 {
     let gate = sheet_gate(true, sheet.len(), SHEET_SIZE);
-    core_services::get_controller_mode::get_controller_mode(
+    ask_controller(
         gate,
+        question,
         initialised,
         controller_count,
         modes,
         requests,
         marks,
+        recoverings,
+        tx_errors,
+        rx_errors,
         sheet,
         controller,
     );

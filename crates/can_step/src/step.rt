@@ -7,18 +7,20 @@ ghost use Rattle.history.specs.Replay.{whole-of};
 ghost use Rattle.can_step.specs.Gathered.{gathered};
 ghost use Rattle.can_step.specs.Stepped.{Stands, Stepped};
 ghost use Rattle.can_step.specs.Called.{call-of};
+use crate::events::counted;
 use crate::events::off;
 use crate::events::sent;
 use crate::frames::arrive;
 use crate::frames::write;
 use crate::polls::controllers;
 use crate::polls::objects;
-use crate::services::get_mode;
+use crate::services::ask;
 use crate::services::set_mode;
 use crate::whole::deinit;
 use crate::whole::init;
 use can_chip::CONTROLLERS;
 use can_chip::OBJECTS;
+use core_answers::question::Question;
 use core_polls::turn::Turn;
 use core_sweeps::visit::Visit;
 
@@ -35,6 +37,9 @@ pub fn step(
     modes: &mut [u8; CONTROLLERS],
     requests: &mut [u8; CONTROLLERS],
     marks: &mut [bool; CONTROLLERS],
+    recoverings: &mut [bool; CONTROLLERS],
+    tx_errors: &mut [u32; CONTROLLERS],
+    rx_errors: &mut [u32; CONTROLLERS],
     owners: &mut [u8; OBJECTS],
     receivings: &mut [bool; OBJECTS],
     pools: &mut [u8; OBJECTS],
@@ -49,17 +54,17 @@ pub fn step(
     sheet: &mut [u32],
 )
     requires { ⌜ Stands
-        (gathered (now initialised) (now «controller_count») (now «object_count») (now modes) (now requests) (now marks) (now owners) (now receivings) (now pools) (now pendings) (now dones) (now fulls) (now payloads) (now paddings)
+        (gathered (now initialised) (now «controller_count») (now «object_count») (now modes) (now requests) (now marks) (now recoverings) (now «tx_errors») (now «rx_errors») (now owners) (now receivings) (now pools) (now pendings) (now dones) (now fulls) (now payloads) (now paddings)
         (now codes) (now masks)) ⌝ }
     ensures { λ _. ⌜ Stepped
         (whole-of
         (performed chip can-format (call-of (now (sheet .entry)) place value handle (now (bytes .entry)) kind)
         (view
-        (gathered (now (initialised .entry)) (now («controller_count» .entry)) (now («object_count» .entry)) (now (modes .entry)) (now (requests .entry)) (now (marks .entry)) (now (owners .entry)) (now (receivings .entry))
+        (gathered (now (initialised .entry)) (now («controller_count» .entry)) (now («object_count» .entry)) (now (modes .entry)) (now (requests .entry)) (now (marks .entry)) (now (recoverings .entry)) (now («tx_errors» .entry)) (now («rx_errors» .entry)) (now (owners .entry)) (now (receivings .entry))
         (now (pools .entry)) (now (pendings .entry)) (now (dones .entry)) (now (fulls .entry)) (now (payloads .entry)) (now (paddings .entry)) (now (codes .entry)) (now (masks .entry))))
         (now (ram .entry)))
         (now (sheet .entry)))
-        (gathered (now (initialised .exit)) (now («controller_count» .exit)) (now («object_count» .exit)) (now (modes .exit)) (now (requests .exit)) (now (marks .exit)) (now (owners .exit)) (now (receivings .exit))
+        (gathered (now (initialised .exit)) (now («controller_count» .exit)) (now («object_count» .exit)) (now (modes .exit)) (now (requests .exit)) (now (marks .exit)) (now (recoverings .exit)) (now («tx_errors» .exit)) (now («rx_errors» .exit)) (now (owners .exit)) (now (receivings .exit))
         (now (pools .exit)) (now (pendings .exit)) (now (dones .exit)) (now (fulls .exit)) (now (payloads .exit)) (now (paddings .exit)) (now (codes .exit)) (now (masks .exit)))
         (now (ram .exit)) (now (sheet .exit)) ⌝ }
 {
@@ -72,6 +77,9 @@ pub fn step(
                 modes,
                 requests,
                 marks,
+                recoverings,
+                tx_errors,
+                rx_errors,
                 owners,
                 receivings,
                 pools,
@@ -95,6 +103,9 @@ pub fn step(
                 modes,
                 requests,
                 marks,
+                recoverings,
+                tx_errors,
+                rx_errors,
                 owners,
                 receivings,
                 pools,
@@ -122,12 +133,16 @@ pub fn step(
             );
         }
         3 => {
-            get_mode(
+            ask(
+                Question::Mode,
                 *initialised,
                 *controller_count,
                 modes,
                 requests,
                 marks,
+                recoverings,
+                tx_errors,
+                rx_errors,
                 sheet,
                 place,
             );
@@ -189,6 +204,9 @@ pub fn step(
                 modes,
                 requests,
                 marks,
+                recoverings,
+                tx_errors,
+                rx_errors,
                 owners,
                 pendings,
                 dones,
@@ -205,6 +223,9 @@ pub fn step(
                 modes,
                 requests,
                 marks,
+                recoverings,
+                tx_errors,
+                rx_errors,
                 owners,
                 pendings,
                 dones,
@@ -236,6 +257,67 @@ pub fn step(
                 requests,
                 marks,
                 place,
+            );
+        }
+        12 => {
+            ask(
+                Question::ErrorState,
+                *initialised,
+                *controller_count,
+                modes,
+                requests,
+                marks,
+                recoverings,
+                tx_errors,
+                rx_errors,
+                sheet,
+                place,
+            );
+        }
+        13 => {
+            ask(
+                Question::RxErrors,
+                *initialised,
+                *controller_count,
+                modes,
+                requests,
+                marks,
+                recoverings,
+                tx_errors,
+                rx_errors,
+                sheet,
+                place,
+            );
+        }
+        14 => {
+            ask(
+                Question::TxErrors,
+                *initialised,
+                *controller_count,
+                modes,
+                requests,
+                marks,
+                recoverings,
+                tx_errors,
+                rx_errors,
+                sheet,
+                place,
+            );
+        }
+        15 => {
+            counted(
+                *initialised,
+                *controller_count,
+                modes,
+                requests,
+                marks,
+                recoverings,
+                tx_errors,
+                rx_errors,
+                sheet,
+                place,
+                value,
+                handle as u32,
             );
         }
         _ => {

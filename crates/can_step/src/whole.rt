@@ -20,6 +20,9 @@ fn gather(
     modes: &[u8; CONTROLLERS],
     requests: &[u8; CONTROLLERS],
     marks: &[bool; CONTROLLERS],
+    recoverings: &[bool; CONTROLLERS],
+    tx_errors: &[u32; CONTROLLERS],
+    rx_errors: &[u32; CONTROLLERS],
     owners: &[u8; OBJECTS],
     receivings: &[bool; OBJECTS],
     pools: &[u8; OBJECTS],
@@ -32,12 +35,15 @@ fn gather(
     masks: &[u32; OBJECTS],
 ) -> State
     ensures { λ r. ⌜ r
-        ≡ gathered initialised «controller_count» «object_count» (now (modes .entry)) (now (requests .entry)) (now (marks .entry)) (now (owners .entry)) (now (receivings .entry))
+        ≡ gathered initialised «controller_count» «object_count» (now (modes .entry)) (now (requests .entry)) (now (marks .entry)) (now (recoverings .entry)) (now («tx_errors» .entry)) (now («rx_errors» .entry)) (now (owners .entry)) (now (receivings .entry))
         (now (pools .entry)) (now (pendings .entry)) (now (dones .entry)) (now (fulls .entry)) (now (payloads .entry)) (now (paddings .entry)) (now (codes .entry)) (now (masks .entry)) ⌝ }
 {
     let all_modes = *modes;
     let all_requests = *requests;
     let all_marks = *marks;
+    let all_recoverings = *recoverings;
+    let all_tx_errors = *tx_errors;
+    let all_rx_errors = *rx_errors;
     let all_owners = *owners;
     let all_receivings = *receivings;
     let all_pools = *pools;
@@ -55,6 +61,9 @@ fn gather(
         modes: all_modes,
         requests: all_requests,
         marks: all_marks,
+        recoverings: all_recoverings,
+        tx_errors: all_tx_errors,
+        rx_errors: all_rx_errors,
         owners: all_owners,
         receivings: all_receivings,
         pools: all_pools,
@@ -77,6 +86,9 @@ fn lay(
     modes: &mut [u8; CONTROLLERS],
     requests: &mut [u8; CONTROLLERS],
     marks: &mut [bool; CONTROLLERS],
+    recoverings: &mut [bool; CONTROLLERS],
+    tx_errors: &mut [u32; CONTROLLERS],
+    rx_errors: &mut [u32; CONTROLLERS],
     owners: &mut [u8; OBJECTS],
     receivings: &mut [bool; OBJECTS],
     pools: &mut [u8; OBJECTS],
@@ -88,7 +100,7 @@ fn lay(
     codes: &mut [u32; OBJECTS],
     masks: &mut [u32; OBJECTS],
 )
-    ensures same { λ _. ⌜ gathered (now (initialised .exit)) (now («controller_count» .exit)) (now («object_count» .exit)) (now (modes .exit)) (now (requests .exit)) (now (marks .exit)) (now (owners .exit)) (now (receivings .exit))
+    ensures same { λ _. ⌜ gathered (now (initialised .exit)) (now («controller_count» .exit)) (now («object_count» .exit)) (now (modes .exit)) (now (requests .exit)) (now (marks .exit)) (now (recoverings .exit)) (now («tx_errors» .exit)) (now («rx_errors» .exit)) (now (owners .exit)) (now (receivings .exit))
         (now (pools .exit)) (now (pendings .exit)) (now (dones .exit)) (now (fulls .exit)) (now (payloads .exit)) (now (paddings .exit)) (now (codes .exit)) (now (masks .exit))
         ≡ state ⌝ }
     ensures sized { λ _. ⌜ Sized state ⌝ }
@@ -96,6 +108,9 @@ fn lay(
     let all_modes = state.modes;
     let all_requests = state.requests;
     let all_marks = state.marks;
+    let all_recoverings = state.recoverings;
+    let all_tx_errors = state.tx_errors;
+    let all_rx_errors = state.rx_errors;
     let all_owners = state.owners;
     let all_receivings = state.receivings;
     let all_pools = state.pools;
@@ -109,6 +124,9 @@ fn lay(
     *modes = all_modes;
     *requests = all_requests;
     *marks = all_marks;
+    *recoverings = all_recoverings;
+    *tx_errors = all_tx_errors;
+    *rx_errors = all_rx_errors;
     *owners = all_owners;
     *receivings = all_receivings;
     *pools = all_pools;
@@ -132,6 +150,9 @@ pub fn init(
     modes: &mut [u8; CONTROLLERS],
     requests: &mut [u8; CONTROLLERS],
     marks: &mut [bool; CONTROLLERS],
+    recoverings: &mut [bool; CONTROLLERS],
+    tx_errors: &mut [u32; CONTROLLERS],
+    rx_errors: &mut [u32; CONTROLLERS],
     owners: &mut [u8; OBJECTS],
     receivings: &mut [bool; OBJECTS],
     pools: &mut [u8; OBJECTS],
@@ -148,17 +169,17 @@ pub fn init(
 )
     ensures left { λ _. ⌜ whole
         (view
-        (gathered (now (initialised .exit)) (now («controller_count» .exit)) (now («object_count» .exit)) (now (modes .exit)) (now (requests .exit)) (now (marks .exit)) (now (owners .exit)) (now (receivings .exit))
+        (gathered (now (initialised .exit)) (now («controller_count» .exit)) (now («object_count» .exit)) (now (modes .exit)) (now (requests .exit)) (now (marks .exit)) (now (recoverings .exit)) (now («tx_errors» .exit)) (now («rx_errors» .exit)) (now (owners .exit)) (now (receivings .exit))
         (now (pools .exit)) (now (pendings .exit)) (now (dones .exit)) (now (fulls .exit)) (now (payloads .exit)) (now (paddings .exit)) (now (codes .exit)) (now (masks .exit))))
         (now (ram .exit)) (now (sheet .exit))
         ≡ whole-of
         (calls.init chip can-format
         (view
-        (gathered (now (initialised .entry)) (now («controller_count» .entry)) (now («object_count» .entry)) (now (modes .entry)) (now (requests .entry)) (now (marks .entry)) (now (owners .entry)) (now (receivings .entry))
+        (gathered (now (initialised .entry)) (now («controller_count» .entry)) (now («object_count» .entry)) (now (modes .entry)) (now (requests .entry)) (now (marks .entry)) (now (recoverings .entry)) (now («tx_errors» .entry)) (now («rx_errors» .entry)) (now (owners .entry)) (now (receivings .entry))
         (now (pools .entry)) (now (pendings .entry)) (now (dones .entry)) (now (fulls .entry)) (now (payloads .entry)) (now (paddings .entry)) (now (codes .entry)) (now (masks .entry))))
         (length (now (sheet .entry))) (now (ram .entry)) (now (bytes .entry))) (now (sheet .entry)) ⌝ }
     ensures sized { λ _. ⌜ Sized
-        (gathered (now (initialised .exit)) (now («controller_count» .exit)) (now («object_count» .exit)) (now (modes .exit)) (now (requests .exit)) (now (marks .exit)) (now (owners .exit)) (now (receivings .exit))
+        (gathered (now (initialised .exit)) (now («controller_count» .exit)) (now («object_count» .exit)) (now (modes .exit)) (now (requests .exit)) (now (marks .exit)) (now (recoverings .exit)) (now («tx_errors» .exit)) (now («rx_errors» .exit)) (now (owners .exit)) (now (receivings .exit))
         (now (pools .exit)) (now (pendings .exit)) (now (dones .exit)) (now (fulls .exit)) (now (payloads .exit)) (now (paddings .exit)) (now (codes .exit)) (now (masks .exit))) ⌝ }
 {
     let state = gather(
@@ -168,6 +189,9 @@ pub fn init(
         modes,
         requests,
         marks,
+        recoverings,
+        tx_errors,
+        rx_errors,
         owners,
         receivings,
         pools,
@@ -189,6 +213,9 @@ pub fn init(
         modes,
         requests,
         marks,
+        recoverings,
+        tx_errors,
+        rx_errors,
         owners,
         receivings,
         pools,
@@ -210,6 +237,9 @@ pub fn deinit(
     modes: &mut [u8; CONTROLLERS],
     requests: &mut [u8; CONTROLLERS],
     marks: &mut [bool; CONTROLLERS],
+    recoverings: &mut [bool; CONTROLLERS],
+    tx_errors: &mut [u32; CONTROLLERS],
+    rx_errors: &mut [u32; CONTROLLERS],
     owners: &mut [u8; OBJECTS],
     receivings: &mut [bool; OBJECTS],
     pools: &mut [u8; OBJECTS],
@@ -225,17 +255,17 @@ pub fn deinit(
 )
     ensures left { λ _. ⌜ whole
         (view
-        (gathered (now (initialised .exit)) (now («controller_count» .exit)) (now («object_count» .exit)) (now (modes .exit)) (now (requests .exit)) (now (marks .exit)) (now (owners .exit)) (now (receivings .exit))
+        (gathered (now (initialised .exit)) (now («controller_count» .exit)) (now («object_count» .exit)) (now (modes .exit)) (now (requests .exit)) (now (marks .exit)) (now (recoverings .exit)) (now («tx_errors» .exit)) (now («rx_errors» .exit)) (now (owners .exit)) (now (receivings .exit))
         (now (pools .exit)) (now (pendings .exit)) (now (dones .exit)) (now (fulls .exit)) (now (payloads .exit)) (now (paddings .exit)) (now (codes .exit)) (now (masks .exit))))
         (now (ram .exit)) (now (sheet .exit))
         ≡ whole-of
         (calls.deinit chip can-format
         (view
-        (gathered (now (initialised .entry)) (now («controller_count» .entry)) (now («object_count» .entry)) (now (modes .entry)) (now (requests .entry)) (now (marks .entry)) (now (owners .entry)) (now (receivings .entry))
+        (gathered (now (initialised .entry)) (now («controller_count» .entry)) (now («object_count» .entry)) (now (modes .entry)) (now (requests .entry)) (now (marks .entry)) (now (recoverings .entry)) (now («tx_errors» .entry)) (now («rx_errors» .entry)) (now (owners .entry)) (now (receivings .entry))
         (now (pools .entry)) (now (pendings .entry)) (now (dones .entry)) (now (fulls .entry)) (now (payloads .entry)) (now (paddings .entry)) (now (codes .entry)) (now (masks .entry))))
         (length (now (sheet .entry))) (now (ram .entry))) (now (sheet .entry)) ⌝ }
     ensures sized { λ _. ⌜ Sized
-        (gathered (now (initialised .exit)) (now («controller_count» .exit)) (now («object_count» .exit)) (now (modes .exit)) (now (requests .exit)) (now (marks .exit)) (now (owners .exit)) (now (receivings .exit))
+        (gathered (now (initialised .exit)) (now («controller_count» .exit)) (now («object_count» .exit)) (now (modes .exit)) (now (requests .exit)) (now (marks .exit)) (now (recoverings .exit)) (now («tx_errors» .exit)) (now («rx_errors» .exit)) (now (owners .exit)) (now (receivings .exit))
         (now (pools .exit)) (now (pendings .exit)) (now (dones .exit)) (now (fulls .exit)) (now (payloads .exit)) (now (paddings .exit)) (now (codes .exit)) (now (masks .exit))) ⌝ }
 {
     let state = gather(
@@ -245,6 +275,9 @@ pub fn deinit(
         modes,
         requests,
         marks,
+        recoverings,
+        tx_errors,
+        rx_errors,
         owners,
         receivings,
         pools,
@@ -266,6 +299,9 @@ pub fn deinit(
         modes,
         requests,
         marks,
+        recoverings,
+        tx_errors,
+        rx_errors,
         owners,
         receivings,
         pools,

@@ -14,12 +14,14 @@ use Rattle.history.specs.Cancellation.{CancellationRule}
 use Rattle.history.specs.PollRule.{PollRule, FirstPollRule}
 use Rattle.history.specs.Demand1.{RefusalRule, ValidRule}
 use Rattle.history.specs.Operators.{OthersRule, ReceivedRule}
+use Rattle.history.specs.ErrorStates.{ErrorRule}
 use Rattle.history.specs.Replay.{ReplayRule}
 use Rattle.history.proofs.Proved.{demand-3, reference-rule}
 use Rattle.history.proofs.Cancellation.{cancellation-rule}
 use Rattle.history.proofs.PollRule.{poll-rule, first-poll-rule}
 use Rattle.history.proofs.Demand1.{refusal-rule, valid-rule}
 use Rattle.history.proofs.Operators.{others-rule, received-rule}
+use Rattle.history.proofs.ErrorStates.{error-rule}
 use Rattle.history.proofs.Replay.{replay-rule}
 use Rattle.can_layout.proofs.Lawful.{can-lawful}
 
@@ -62,6 +64,10 @@ chip-others-rule = others-rule chip can-format
 -- a received frame survives every poll but the read poll
 pub chip-received-rule : ReceivedRule chip can-format
 chip-received-rule = received-rule chip can-format
+
+-- 02, Q-5: a controller that went off the bus answers bus-off until it is STARTED again, and entering passive is told exactly once
+pub chip-error-rule : ErrorRule chip can-format
+chip-error-rule = error-rule chip can-format can-lawful
 
 -- calls that are handed one sheet, one after the other, leave what the list of them leaves
 pub chip-replay-rule : ReplayRule chip can-format

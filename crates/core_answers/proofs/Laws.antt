@@ -12,7 +12,7 @@ use Rattle.laws.proofs.Sheets.{sheet-none}
 use Rattle.core_answers.specs.Answer.{reason-of}
 use Rattle.core_answers.specs.Performed.{Performed, Noted}
 use Rattle.core_answers.specs.declared.rejection.Rejection.{Rejection}
-use Rattle.core_answers.specs.declared.rejection.Rejection.the-variants.{ParamHandle, ParamDataLength, ParamController, Uninit, Transition, InitFailed, SheetTooShort, WrongRamSize, BadIdentifier, NotStarted, ObjectBusy, BusOff, NothingToSend, BadLength, InvalidState}
+use Rattle.core_answers.specs.declared.rejection.Rejection.the-variants.{ParamHandle, ParamDataLength, ParamController, Uninit, Transition, InitFailed, SheetTooShort, WrongRamSize, BadIdentifier, NotStarted, ObjectBusy, BusOff, NothingToSend, BadLength, InvalidState, ErrorCountTooLarge}
 
 pub reason-named : (r : Rejection) → eqb (reason-of r) 0 ≡ false
 reason-named ParamHandle = refl
@@ -30,6 +30,7 @@ reason-named BusOff = refl
 reason-named NothingToSend = refl
 reason-named BadLength = refl
 reason-named InvalidState = refl
+reason-named ErrorCountTooLarge = refl
 
 -- nothing is written
 pub noted-none : (sheet : List ℕ) → Noted [] sheet sheet 0
@@ -52,19 +53,25 @@ module _ {S : Type 0} (r : ℕ) (report : ℕ → List Notification) (refusal : 
         sheet-is = told .sheet-is;
       })
 
-  -- it found none: the call owes its answer, state and memory, and writes nothing
-  pub accepted-performed : (answer : Answer) (next : S) (ram-next sheet : List ℕ) {reason : ℕ} {given : Answer} {state : S} {after : List ℕ}
-      → reason ≡ r → reason ≡ 0 → given ≡ answer → state ≡ next → after ≡ ram-next
-      → Performed (judged r (rejected report refusal s ram) (accepted answer next ram-next [])) reason given state 0 after sheet sheet
+  -- it found none: the call owes its answer, state and memory, and what it tells
+  pub told-performed : (answer : Answer) (next : S) (ram-next : List ℕ) (notes : List Notification) {reason count : ℕ} {given : Answer} {state : S} {after sheet sheet-next : List ℕ}
+      → reason ≡ r → reason ≡ 0 → given ≡ answer → state ≡ next → after ≡ ram-next → Noted notes sheet sheet-next count
+      → Performed (judged r (rejected report refusal s ram) (accepted answer next ram-next notes)) reason given state count after sheet sheet-next
   unfolding return-code
-  accepted-performed answer next ram-next sheet found e answer-so state-so ram-so =
-      rw (judged-accepts r (rejected report refusal s ram) (accepted answer next ram-next []) (sym found ∙ e))
+  told-performed answer next ram-next notes found e answer-so state-so ram-so noted =
+      rw (judged-accepts r (rejected report refusal s ram) (accepted answer next ram-next notes) (sym found ∙ e))
       (record {
         code-is = rw e;
         reason-is = e;
         answer-is = answer-so;
         state-is = state-so;
-        count-is = refl;
+        count-is = noted .count-is;
         ram-is = ram-so;
-        sheet-is = sym (sheet-none sheet);
+        sheet-is = noted .sheet-is;
       })
+
+  -- the same where it writes nothing
+  pub accepted-performed : (answer : Answer) (next : S) (ram-next sheet : List ℕ) {reason : ℕ} {given : Answer} {state : S} {after : List ℕ}
+      → reason ≡ r → reason ≡ 0 → given ≡ answer → state ≡ next → after ≡ ram-next
+      → Performed (judged r (rejected report refusal s ram) (accepted answer next ram-next [])) reason given state 0 after sheet sheet
+  accepted-performed answer next ram-next sheet found e answer-so state-so ram-so = told-performed answer next ram-next [] found e answer-so state-so ram-so (noted-none sheet)

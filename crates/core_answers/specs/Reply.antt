@@ -1,10 +1,13 @@
 -- The paper's reason and values for every case of the answers that tell more than a verdict.
 use Prim.Native.Nat.{ℕ}
 use mathlib.Core.Option.{none, some}
-use Rattle.rules.specs.Outcome.{Answer, no-answer, mode, taken-by, stored-in, unwanted, lost, sends-next}
+use Rattle.rules.specs.Outcome as rules
+use Rattle.rules.specs.Outcome.{Answer, no-answer, told, taken-by, stored-in, unwanted, lost, sends-next}
 use Rattle.core_answers.specs.Answer.{reason-of}
-use Rattle.core_answers.specs.declared.reply.ModeReply as modes
-use Rattle.core_answers.specs.declared.reply.ModeReply.{ModeReply}
+use Rattle.core_answers.specs.declared.question.Question.{Question}
+use Rattle.core_answers.specs.declared.question.Question.the-variants.{Mode, ErrorState, RxErrors, TxErrors}
+use Rattle.core_answers.specs.declared.reply.QuestionReply as questions
+use Rattle.core_answers.specs.declared.reply.QuestionReply.{QuestionReply}
 use Rattle.core_answers.specs.declared.reply.WriteReply as writes
 use Rattle.core_answers.specs.declared.reply.WriteReply.{WriteReply}
 use Rattle.core_answers.specs.declared.reply.ArrivalReply as arrivals
@@ -12,14 +15,21 @@ use Rattle.core_answers.specs.declared.reply.ArrivalReply.{ArrivalReply}
 use Rattle.core_answers.specs.declared.reply.NextReply as nexts
 use Rattle.core_answers.specs.declared.reply.NextReply.{NextReply}
 
--- GetControllerMode "answers the mode, and 0 with a no"
-abbrev pub mode-reason : ModeReply → ℕ
-mode-reason (modes.the-variants.Mode m) = 0
-mode-reason (modes.the-variants.Rejected r) = reason-of r
+-- the code's question as the rules'
+abbrev pub question-of : Question → rules.Question
+question-of Mode = rules.of-mode
+question-of ErrorState = rules.of-error-state
+question-of RxErrors = rules.of-rx-errors
+question-of TxErrors = rules.of-tx-errors
 
-abbrev pub mode-answer : ModeReply → Answer
-mode-answer (modes.the-variants.Mode m) = mode m
-mode-answer (modes.the-variants.Rejected r) = mode 0
+-- A question of a controller has its answer, "and 0 with a no".
+abbrev pub question-reason : QuestionReply → ℕ
+question-reason (questions.the-variants.Answered n) = 0
+question-reason (questions.the-variants.Rejected r) = reason-of r
+
+abbrev pub question-answer : Question → QuestionReply → Answer
+question-answer q (questions.the-variants.Answered n) = told (question-of q) n
+question-answer q (questions.the-variants.Rejected r) = told (question-of q) 0
 
 -- Write answers the object that took the frame.
 abbrev pub write-reason : WriteReply → ℕ

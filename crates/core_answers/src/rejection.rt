@@ -34,6 +34,8 @@ pub enum Rejection {
     BadLength,
     // The state is none that the driver can be in.
     InvalidState,
+    // An error count is above its limit.
+    ErrorCountTooLarge,
 }
 
 // The reason's number.
@@ -56,5 +58,6 @@ pub fn reason(r: Rejection) -> u32
         Rejection::NothingToSend => 38,
         Rejection::BadLength => 40,
         Rejection::InvalidState => 41,
+        Rejection::ErrorCountTooLarge => 43,
     }
 }

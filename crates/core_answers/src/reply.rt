@@ -1,13 +1,13 @@
 // What the calls answer that tell more than a verdict. crates/core_answers/specs/Reply.antt gives the paper's numbers for each case.
 ghost use mathlib.Core.Path.{_≡_};
 ghost use Rattle.core_answers.specs.Answer.{verdict-reason};
-ghost use Rattle.core_answers.specs.Reply.{mode-reason, write-reason, arrival-reason, next-reason};
+ghost use Rattle.core_answers.specs.Reply.{question-reason, write-reason, arrival-reason, next-reason};
 use crate::rejection::Rejection;
 use crate::verdict::Verdict;
 
-// GetControllerMode: the mode, or why there is none.
-pub enum ModeReply {
-    Mode(u8),
+// A question of a controller: its answer, or why there is none.
+pub enum QuestionReply {
+    Answered(u8),
     Rejected(Rejection),
 }
 
@@ -32,13 +32,13 @@ pub enum NextReply {
     Rejected(Rejection),
 }
 
-// The verdict in the answer to GetControllerMode.
-pub fn mode_verdict(reply: ModeReply) -> Verdict
-    ensures { λ v. ⌜ verdict-reason v ≡ mode-reason reply ⌝ }
+// The verdict in the answer to a question of a controller.
+pub fn question_verdict(reply: QuestionReply) -> Verdict
+    ensures { λ v. ⌜ verdict-reason v ≡ question-reason reply ⌝ }
 {
     match reply {
-        ModeReply::Mode(_) => Verdict::Accepted,
-        ModeReply::Rejected(r) => Verdict::Rejected(r),
+        QuestionReply::Answered(_) => Verdict::Accepted,
+        QuestionReply::Rejected(r) => Verdict::Rejected(r),
     }
 }
 

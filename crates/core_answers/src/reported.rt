@@ -1,6 +1,6 @@
 // What a call on the core hands back.
 use crate::reply::ArrivalReply;
-use crate::reply::ModeReply;
+use crate::reply::QuestionReply;
 use crate::reply::WriteReply;
 use crate::verdict::Verdict;
 
@@ -10,9 +10,9 @@ pub struct Reported {
     pub notifications: usize,
 }
 
-// The answer to GetControllerMode, and how many notifications stand on the sheet.
-pub struct ModeReported {
-    pub reply: ModeReply,
+// The answer to a question of a controller, and how many notifications stand on the sheet.
+pub struct QuestionReported {
+    pub reply: QuestionReply,
     pub notifications: usize,
 }
 

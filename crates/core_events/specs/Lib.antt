@@ -3,3 +3,4 @@
 pub mod Checks
 pub mod Pick
 pub mod Next
+pub mod Counted

@@ -35,6 +35,11 @@ pub enum Notification {
         object: u32,
         handle: u32,
     },
+    ErrorPassive {
+        controller: u32,
+        transmit: u32,
+        receive: u32,
+    },
 }
 
 // Words that one notification takes.
@@ -56,6 +61,11 @@ fn words(n: Notification) -> [u32; WORDS]
         Notification::DevelopmentError { service, error } => [5, service, error, 0],
         Notification::DataLost { object } => [6, object, 1, 0],
         Notification::TxCancellation { object, handle } => [7, object, handle, 0],
+        Notification::ErrorPassive {
+            controller,
+            transmit,
+            receive,
+        } => [8, controller, transmit, receive],
     }
 }
 

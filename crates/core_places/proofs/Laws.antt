@@ -1,14 +1,25 @@
 -- Laws of places in lent arrays: what stands at a place, and a place that is changed.
-use Prim.Native.Nat.{ℕ, zero, suc, _≤_, _<_}
+use Prim.Native.Nat.{ℕ, zero, suc, _≤_, _<_, min}
 use mathlib.Core.Path.{_≡_, refl, ap, sym, _∙_}
-use mathlib.Core.Bool.{Bool, false}
+use mathlib.Core.Bool.{Bool, true, false}
 use mathlib.Core.List.{List, [], _∷_}
 use native.Mathlib.Omega.{arith}
 use lib.ListN.{length, getD, set, List·getD-eq-default}
+use lib.Dec.{ltb}
+use borrow.Author.Tests.{lt-ltb, le-ltb, ltb-true, ltb-false}
+use Rattle.rules.specs.Errors as errors
 use Rattle.rules.specs.Core as rules
 use Rattle.core_places.specs.Held.{Owned, Held, ObjectRead}
 use Rattle.core_places.specs.Pools.{pooled, Pooled}
-use Rattle.core_places.specs.Arrays.{zip-with, zip-with-3, zip-with-4, controllers-in, owners-in, mailboxes-in, Alike}
+use Rattle.core_places.specs.Arrays.{zip-with, zip-with-3, zip-with-4, controllers-in, errors-in, owners-in, mailboxes-in, Alike}
+
+-- A count past the last place asks no more than that place does.
+pub limited-count : (i n count : ℕ) → i < n → ltb i count ≡ ltb i (min count n)
+limited-count i n count l = go (ltb i count) refl
+  where
+    go : (b : Bool) → ltb i count ≡ b → b ≡ ltb i (min count n)
+    go true e = let below = ltb-true i count e in sym (lt-ltb i (min count n) (omega arith))
+    go false e = let past = ltb-false i count e in sym (le-ltb i (min count n) (omega arith))
 
 module _ {A B C : Type 0} (f : A → B → C) where
   pub zip-length : (xs : List A) (ys : List B) → length ys ≡ length xs → length (zip-with f xs ys) ≡ length xs
@@ -68,6 +79,10 @@ pub controller-seen : (modes requests : List ℕ) (marks : List Bool) (c : ℕ) 
     → rules.controller-at (controllers-in modes requests marks) c ≡ record { mode = getD modes c 0; requested-mode = getD requests c 0; bus-off = getD marks c false }
 controller-seen modes requests marks c alike = zip-3-at (λ m r b. record { mode = m; requested-mode = r; bus-off = b }) modes requests marks c 0 0 false alike
 
+pub errors-seen : (recoverings : List Bool) (tx-errors rx-errors : List ℕ) (c : ℕ) → Alike recoverings tx-errors rx-errors
+    → rules.errors-at (errors-in recoverings tx-errors rx-errors) c ≡ record { recovering = getD recoverings c false; tx-errors = getD tx-errors c 0; rx-errors = getD rx-errors c 0 }
+errors-seen recoverings tx-errors rx-errors c alike = zip-3-at (λ b t r. record { recovering = b; tx-errors = t; rx-errors = r }) recoverings tx-errors rx-errors c false 0 0 alike
+
 pub owner-seen : (controllers : List ℕ) (receivings : List Bool) (pools : List ℕ) (h : ℕ) → Alike controllers receivings pools
     → rules.owner-at (owners-in controllers receivings pools) h ≡ record { controller = getD controllers h 0; receiving = getD receivings h false; pool = getD pools h 0 }
 owner-seen controllers receivings pools h alike = zip-3-at (λ c r p. record { controller = c; receiving = r; pool = p }) controllers receivings pools h 0 false 0 alike
@@ -95,6 +110,9 @@ mailbox-seen pendings dones fulls h alike = zip-3-at (λ p d f. record { tx-pend
 pub controller-past : (modes requests : List ℕ) (marks : List Bool) (c : ℕ) → Alike modes requests marks → length modes ≤ c → rules.idle-controller ≡ rules.controller-at (controllers-in modes requests marks) c
 controller-past modes requests marks c alike past = sym (List·getD-eq-default (controllers-in modes requests marks) rules.idle-controller (rw (zip-3-length _ modes requests marks alike) past))
 
+pub errors-past : (recoverings : List Bool) (tx-errors rx-errors : List ℕ) (c : ℕ) → Alike recoverings tx-errors rx-errors → length recoverings ≤ c → errors.no-errors ≡ rules.errors-at (errors-in recoverings tx-errors rx-errors) c
+errors-past recoverings tx-errors rx-errors c alike past = sym (List·getD-eq-default (errors-in recoverings tx-errors rx-errors) errors.no-errors (rw (zip-3-length _ recoverings tx-errors rx-errors alike) past))
+
 pub mailbox-past : (pendings dones fulls : List Bool) (h : ℕ) → Alike pendings dones fulls → length pendings ≤ h → rules.empty-mailbox ≡ rules.mailbox-at (mailboxes-in pendings dones fulls) h
 mailbox-past pendings dones fulls h alike past = sym (List·getD-eq-default (mailboxes-in pendings dones fulls) rules.empty-mailbox (rw (zip-3-length _ pendings dones fulls alike) past))
 
@@ -113,6 +131,10 @@ object-read h held ec er ek em =
 pub controller-changed : (f : rules.Controller → rules.Controller) (c : ℕ) {kept ks ks′ : List rules.Controller} {k k′ : rules.Controller}
     → kept ≡ ks → k ≡ rules.controller-at ks c → k′ ≡ f k → ks′ ≡ set ks c k′ → ks′ ≡ set kept c (f (rules.controller-at kept c))
 controller-changed f c held seen changed stored = rw (stored, changed, seen, held)
+
+pub errors-changed : (f : errors.Errors → errors.Errors) (c : ℕ) {kept es es′ : List errors.Errors} {e e′ : errors.Errors}
+    → kept ≡ es → e ≡ rules.errors-at es c → e′ ≡ f e → es′ ≡ set es c e′ → es′ ≡ set kept c (f (rules.errors-at kept c))
+errors-changed f c held seen changed stored = rw (stored, changed, seen, held)
 
 pub mailbox-stored : (h : ℕ) {kept ms ms′ : List rules.Mailbox} {m m′ : rules.Mailbox} → kept ≡ ms → m ≡ m′ → ms′ ≡ set ms h m → ms′ ≡ set kept h m′
 mailbox-stored h held is stored = rw (stored, is, held)

@@ -4,6 +4,7 @@ use mathlib.Core.Path.{_≡_}
 use mathlib.Core.Bool.{Bool}
 use mathlib.Core.List.{List, [], _∷_}
 use lib.ListN.{length}
+use Rattle.rules.specs.Errors.{Errors}
 use Rattle.rules.specs.Core.{Controller, Owner, Mailbox, Core}
 
 -- two lists side by side, as far as both go
@@ -32,9 +33,13 @@ owners-in controllers receivings pools = zip-with-3 (λ c r p. record { controll
 abbrev pub mailboxes-in : List Bool → List Bool → List Bool → List Mailbox
 mailboxes-in pendings dones fulls = zip-with-3 (λ p d f. record { tx-pending = p; tx-done = d; rx-full = f }) pendings dones fulls
 
+-- second mark, transmit count, receive count
+abbrev pub errors-in : List Bool → List ℕ → List ℕ → List Errors
+errors-in recoverings tx-errors rx-errors = zip-with-3 (λ b t r. record { recovering = b; tx-errors = t; rx-errors = r }) recoverings tx-errors rx-errors
+
 -- the core that stands in these arrays
-abbrev pub core-in : Bool → ℕ → ℕ → List ℕ → List ℕ → List Bool → List ℕ → List Bool → List ℕ → List Bool → List Bool → List Bool → Core
-core-in initialised controller-count object-count modes requests marks owners receivings pools pendings dones fulls =
+abbrev pub core-in : Bool → ℕ → ℕ → List ℕ → List ℕ → List Bool → List ℕ → List Bool → List ℕ → List Bool → List Bool → List Bool → List Bool → List ℕ → List ℕ → Core
+core-in initialised controller-count object-count modes requests marks owners receivings pools pendings dones fulls recoverings tx-errors rx-errors =
     record {
       initialised = initialised;
       controller-count = controller-count;
@@ -42,6 +47,7 @@ core-in initialised controller-count object-count modes requests marks owners re
       owners = owners-in owners receivings pools;
       controllers = controllers-in modes requests marks;
       mailboxes = mailboxes-in pendings dones fulls;
+      errors = errors-in recoverings tx-errors rx-errors;
     }
 
 -- the arrays have a place for each of the same numbers

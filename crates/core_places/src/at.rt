@@ -5,10 +5,12 @@ ghost use mathlib.Core.Bool.{false};
 ghost use Prim.Native.Nat.{_<_};
 ghost use lib.ListN.{length, getD};
 ghost use Rattle.rules.specs.Core as rules;
-ghost use Rattle.core_places.specs.View.{view-controller, view-mailbox};
-ghost use Rattle.core_places.specs.Arrays.{Alike, controllers-in, mailboxes-in};
+ghost use Rattle.core_places.specs.View.{view-controller, view-errors, view-mailbox};
+ghost use Rattle.core_places.specs.Arrays.{Alike, controllers-in, errors-in, mailboxes-in};
 use crate::controller::Controller;
 use crate::controller::idle_controller;
+use crate::errors::Errors;
+use crate::errors::no_errors;
 use crate::mailbox::Mailbox;
 use crate::mailbox::empty_mailbox;
 
@@ -38,6 +40,18 @@ pub fn read_controller(modes: &[u8], requests: &[u8], marks: &[bool], c: usize) 
     }
 }
 
+// The errors of controller c, which there is.
+pub fn read_errors(recoverings: &[bool], tx_errors: &[u32], rx_errors: &[u32], c: usize) -> Errors
+    requires { ⌜ (c < length (now recoverings)) × Alike (now recoverings) (now «tx_errors») (now «rx_errors») ⌝ }
+    ensures { λ r. ⌜ view-errors r ≡ rules.errors-at (errors-in (now (recoverings .entry)) (now («tx_errors» .entry)) (now («rx_errors» .entry))) c ⌝ }
+{
+    Errors {
+        recovering: recoverings[c],
+        tx_errors: tx_errors[c],
+        rx_errors: rx_errors[c],
+    }
+}
+
 // The mailbox of object h, which there is.
 pub fn read_mailbox(pendings: &[bool], dones: &[bool], fulls: &[bool], h: usize) -> Mailbox
     requires { ⌜ (h < length (now pendings)) × Alike (now pendings) (now dones) (now fulls) ⌝ }
@@ -59,6 +73,18 @@ pub fn controller_at(modes: &[u8], requests: &[u8], marks: &[bool], c: usize) ->
         read_controller(modes, requests, marks, c)
     } else {
         idle_controller()
+    }
+}
+
+// The errors of controller c.
+pub fn errors_at(recoverings: &[bool], tx_errors: &[u32], rx_errors: &[u32], c: usize) -> Errors
+    requires { ⌜ Alike (now recoverings) (now «tx_errors») (now «rx_errors») ⌝ }
+    ensures { λ r. ⌜ view-errors r ≡ rules.errors-at (errors-in (now (recoverings .entry)) (now («tx_errors» .entry)) (now («rx_errors» .entry))) c ⌝ }
+{
+    if c < recoverings.len() {
+        read_errors(recoverings, tx_errors, rx_errors, c)
+    } else {
+        no_errors()
     }
 }
 

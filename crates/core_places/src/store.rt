@@ -3,9 +3,10 @@ ghost use mathlib.Core.Path.{_≡_};
 ghost use Prim.Native.Nat.{_<_};
 ghost use lib.ListN.{length, set};
 ghost use Rattle.rules.specs.Core as rules;
-ghost use Rattle.core_places.specs.View.{view-controller, view-mailbox};
-ghost use Rattle.core_places.specs.Arrays.{Alike, controllers-in, mailboxes-in};
+ghost use Rattle.core_places.specs.View.{view-controller, view-errors, view-mailbox};
+ghost use Rattle.core_places.specs.Arrays.{Alike, controllers-in, errors-in, mailboxes-in};
 use crate::controller::Controller;
+use crate::errors::Errors;
 use crate::mailbox::Mailbox;
 
 // Controller c becomes k.
@@ -23,6 +24,23 @@ pub fn set_controller(
     modes[c] = k.mode;
     requests[c] = k.requested_mode;
     marks[c] = k.bus_off;
+}
+
+// The errors of controller c become e.
+pub fn set_errors(
+    recoverings: &mut [bool],
+    tx_errors: &mut [u32],
+    rx_errors: &mut [u32],
+    c: usize,
+    e: Errors,
+)
+    requires { ⌜ (c < length (now recoverings)) × Alike (now recoverings) (now «tx_errors») (now «rx_errors») ⌝ }
+    ensures { λ _. ⌜ errors-in (now (recoverings .exit)) (now («tx_errors» .exit)) (now («rx_errors» .exit))
+        ≡ set (errors-in (now (recoverings .entry)) (now («tx_errors» .entry)) (now («rx_errors» .entry))) c (view-errors e) ⌝ }
+{
+    recoverings[c] = e.recovering;
+    tx_errors[c] = e.tx_errors;
+    rx_errors[c] = e.rx_errors;
 }
 
 // The mailbox of object h becomes m.

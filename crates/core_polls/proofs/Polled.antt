@@ -8,9 +8,10 @@ use lib.ListN.{length}
 use lib.Dec.{eqb}
 use Rattle.rules.specs.Notification.{Notification, sheet-after}
 use Rattle.rules.specs.Reason.{return-code}
-use Rattle.rules.specs.Core.{Controller, Mailbox, Core, with-controllers, with-mailboxes}
+use Rattle.rules.specs.Errors.{Errors}
+use Rattle.rules.specs.Core.{Controller, Mailbox, Core, with-controllers, with-mailboxes, with-errors}
 use Rattle.rules.specs.Outcome.{no-answer, judged}
-use Rattle.rules.specs.Polls.{Boxes, Sweep, Visit, Turn, polled, visit-all, turn-all, boxes-of, objects-polled, controllers-polled, after-sweep}
+use Rattle.rules.specs.Polls.{Boxes, Sweep, Visit, Turn, polled, visit-all, turn-all, errors-all, boxes-of, objects-polled, controllers-polled, after-sweep}
 use Rattle.laws.proofs.Sheets.{sheet-none}
 use Rattle.core_answers.specs.Performed.{Performed}
 use Rattle.core_sweeps.specs.Swept.{Swept, boxes-from}
@@ -35,6 +36,7 @@ module _ (gate : ℕ) (core : Core) (ram : List ℕ) where
       let at = rw (← same) at s in
       polled-passed _ _ e (rw (at .mailboxes-are)) (let n = at .told-is in omega arith) (at .sheet-is)
 
-  pub controllers-passed : (size : ℕ) (t : Turn) {ks : List Controller} {ms : List Mailbox} {count : ℕ} {before after : List ℕ} → gate ≡ 0
-      → SweptAll (turn-all size t core ram) before after ks ms count → Performed (controllers-polled gate size t core ram) gate no-answer (with-mailboxes (with-controllers core ks) ms) count ram before after
-  controllers-passed size t e s = polled-passed _ _ e (rw (s .controllers-are, s .boxes-are .mailboxes-are)) (let n = s .boxes-are .told-is in omega arith) (s .boxes-are .sheet-is)
+  pub controllers-passed : (size : ℕ) (t : Turn) {ks : List Controller} {ms : List Mailbox} {es : List Errors} {count : ℕ} {before after : List ℕ} → gate ≡ 0
+      → SweptAll (turn-all size t core ram) before after ks ms count → es ≡ errors-all t (core .controller-count) (core .controllers) (core .errors)
+      → Performed (controllers-polled gate size t core ram) gate no-answer (with-errors (with-mailboxes (with-controllers core ks) ms) es) count ram before after
+  controllers-passed size t e s errors = polled-passed _ _ e (rw (s .controllers-are, s .boxes-are .mailboxes-are, errors)) (let n = s .boxes-are .told-is in omega arith) (s .boxes-are .sheet-is)

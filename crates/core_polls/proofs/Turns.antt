@@ -146,6 +146,7 @@ module _ {t : Turn} {size : ℕ} {owners ram : List ℕ} {total count : ℕ} {m�
         owners = owned-by owners;
         controllers = controllers-in m₀ r₀ k₀;
         mailboxes = mailboxes-in p₀ d₀ f₀;
+        errors = [];
       }
 
   -- what was told and what is still busy leave room for the controllers to come

@@ -2,7 +2,7 @@
 use Prim.Native.Nat.{ℕ, _≤_, _<_, _-_, min}
 use native.Mathlib.Omega.{arith}
 use mathlib.Core.Path.{_≡_, refl, sym, ap, _∙_}
-use mathlib.Core.Bool.{Bool, true, false, not, _&&_, _||_, and-true, and-false, and-assoc, and-comm}
+use mathlib.Core.Bool.{Bool, true, false, not, cond, _&&_, _||_, and-true, and-false, and-assoc, and-comm}
 use mathlib.Core.Logic.{⊎-elim}
 use mathlib.Core.List.{List}
 use lib.ListN.{length, getD}
@@ -10,13 +10,14 @@ use lib.Dec.{eqb, ltb, leb}
 use borrow.Author.Tests.{ltb-true, ltb-false, le-leb, lt-leb, leb-true, eq-eqb, eqb-true}
 use Rattle.rules.specs.Mode.{STARTED}
 use Rattle.rules.specs.Repeat.{all-below}
-use Rattle.rules.specs.Core.{Controller, Owner, Mailbox, Core, has-places, owner-place-valid, controller-place-valid, mailbox-place-valid, owner-at, mailbox-at, controller-at, controller-of, is-started, controller-valid, controller-idle, owner-valid, owner-unused, mailbox-valid, mailbox-empty}
+use Rattle.rules.specs.Errors.{Errors, errors-none}
+use Rattle.rules.specs.Core.{Controller, Owner, Mailbox, Core, has-places, owner-place-valid, controller-place-valid, mailbox-place-valid, owner-at, mailbox-at, controller-at, errors-at, controller-of, is-started, controller-valid, errors-valid, controller-idle, owner-valid, owner-unused, mailbox-valid, mailbox-empty}
 use Rattle.laws.proofs.Tests.{both, left, right, decide, same-truth, under}
 use Rattle.laws.proofs.Repeat.{all-facts, facts-all}
 use Rattle.core_places.specs.Arrays.{Alike, controllers-in, owners-in, mailboxes-in, core-in}
-use Rattle.core_places.proofs.Laws.{zip-3-length, controller-seen, owner-seen, mailbox-seen}
+use Rattle.core_places.proofs.Laws.{limited-count, zip-3-length, controller-seen, owner-seen, mailbox-seen}
 use Rattle.core_validity.specs.Arrays.{limits-of, Places}
-use Rattle.core_validity.specs.Tests.{counts-suit, controllers-valid, controllers-idle, objects-valid, objects-unused, waiting-started, places-valid}
+use Rattle.core_validity.specs.Tests.{counts-suit, controllers-valid, controllers-idle, objects-valid, objects-unused, waiting-started, places-valid, errors-suit, errors-rest, errors-places-valid}
 use Rattle.core_validity.proofs.Laws.{and-pairs, all-below-ext, all-below-and, by-use, by-count}
 
 -- An owner is a byte: it is below the count if it is at most the largest byte below the count.
@@ -86,7 +87,7 @@ regrouped owners controllers mailboxes a b c d e f =
     ∙ rw (e, f) (and-comm (b && d) (a && c) ∙ and-pairs a c b d)
 
 module _ (initialised : Bool) (controller-count object-count : ℕ) (modes requests : List ℕ) (marks : List Bool) (owners : List ℕ) (receivings : List Bool) (pools : List ℕ)
-    (pendings dones fulls : List Bool) (places : Places modes requests marks owners receivings pools pendings dones fulls) where
+    (pendings dones fulls recoverings : List Bool) (tx-errors rx-errors : List ℕ) (places : Places modes requests marks owners receivings pools pendings dones fulls) where
   abbrev ks : List Controller
   ks = controllers-in modes requests marks
 
@@ -100,7 +101,7 @@ module _ (initialised : Bool) (controller-count object-count : ℕ) (modes reque
   ms = mailboxes-in pendings dones fulls
 
   abbrev core : Core
-  core = core-in initialised controller-count object-count modes requests marks owners receivings pools pendings dones fulls
+  core = core-in initialised controller-count object-count modes requests marks owners receivings pools pendings dones fulls recoverings tx-errors rx-errors
 
   abbrev counts : Bool
   counts = counts-suit (limits-of (length modes) (length owners)) initialised controller-count object-count
@@ -221,3 +222,14 @@ module _ (n m controller-count object-count : ℕ) (initialised : Bool) (suit : 
 
   pub counts-fit : (controller-count ≤ n) × (object-count ≤ m)
   counts-fit = ⊎-elim (λ on. let s = counts-some on in (s .1, s .2)) (λ off. let none = counts-none off in omega arith) (decide initialised)
+
+-- The errors of controllers in use and the others are all errors.
+pub all-errors-parts : (n count : ℕ) (ks : List Controller) (es : List Errors) → length es ≡ n
+    → (errors-suit ks es (min count n) && errors-rest es (min count n)) ≡ errors-places-valid n count ks es
+all-errors-parts n count ks es places =
+    let end = min count n in
+    let used : ℕ → Bool = λ c. errors-valid (controller-at ks c) (errors-at es c) in
+    let rest : ℕ → Bool = λ c. errors-none (errors-at es c) in
+    rw (places, eq-eqb n n refl)
+    (sym (by-count end rest n used (omega arith))
+    ∙ all-below-ext n (λ c. cond (ltb c end) (used c) (rest c)) (λ c. cond (ltb c count) (used c) (rest c)) (λ c l. rw (limited-count c n count l)))

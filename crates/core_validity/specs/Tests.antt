@@ -7,7 +7,8 @@ use lib.Dec.{eqb, ltb}
 use Rattle.rules.specs.Limits.{Limits}
 use Rattle.rules.specs.Mode.{STARTED}
 use Rattle.rules.specs.Repeat.{all-below}
-use Rattle.rules.specs.Core.{Controller, Owner, Mailbox, Core, controller-at, owner-at, mailbox-at, controller-valid, controller-idle, owner-unused, mailbox-valid, mailbox-empty, counts-valid, has-places, nothing-in-use, owner-place-valid, controller-place-valid, mailbox-place-valid}
+use Rattle.rules.specs.Errors.{Errors, errors-none}
+use Rattle.rules.specs.Core.{Controller, Owner, Mailbox, Core, controller-at, errors-at, owner-at, mailbox-at, controller-valid, errors-valid, controller-idle, owner-unused, mailbox-valid, mailbox-empty, counts-valid, has-places, nothing-in-use, owner-place-valid, controller-place-valid, mailbox-place-valid}
 
 -- p holds of every place below n but the first ones, so many as the count says
 abbrev pub all-from : ℕ → ℕ → (ℕ → Bool) → Bool
@@ -47,7 +48,21 @@ started-or-none owners pendings count mode c = eqb mode STARTED || none-waits ow
 abbrev pub waiting-started : ℕ → List ℕ → List ℕ → List Bool → ℕ → Bool
 waiting-started controllers modes owners pendings count = all-below controllers (λ c. started-or-none owners pendings count (getD modes c 0) c)
 
--- a valid core, but for its pools
+-- the errors of each controller in use are valid for it
+abbrev pub errors-suit : List Controller → List Errors → ℕ → Bool
+errors-suit ks es count = all-below count (λ c. errors-valid (controller-at ks c) (errors-at es c))
+
+-- the errors of each other place are at rest
+abbrev pub errors-rest : List Errors → ℕ → Bool
+errors-rest es count = all-from (length es) count (λ c. errors-none (errors-at es c))
+
+-- the errors of all places, where so many controllers are in use; `all-errors-valid` of a core (proofs/Whole.antt)
+abbrev pub errors-places-valid : ℕ → ℕ → List Controller → List Errors → Bool
+errors-places-valid places count ks es =
+    eqb (length es) places
+    && all-below places (λ c. cond (ltb c count) (errors-valid (controller-at ks c) (errors-at es c)) (errors-none (errors-at es c)))
+
+-- a valid core, but for its pools and its errors
 unfoldable pub places-valid : Limits → Core → Bool
 places-valid L core =
     has-places L core

@@ -1,5 +1,8 @@
 // When the places of a core are valid.
 ghost use mathlib.Core.Path.{_≡_};
+ghost use mathlib.Core.Bool.{Bool};
+ghost use mathlib.Core.List.{List};
+ghost use Prim.Native.Nat.{ℕ};
 ghost use lib.ListN.{length};
 ghost use Rattle.core_places.specs.Arrays.{core-in};
 ghost use Rattle.core_validity.specs.Arrays.{limits-of, Places};
@@ -11,8 +14,8 @@ use crate::objects::objects_unused;
 use crate::objects::objects_valid;
 use crate::waiting::waiting_started;
 
-// Whether the core is one that the driver can be in, where there are as many places as the arrays have, but for its pools: those are tested
-// beside it, together with what a format's members share.
+// Whether the core is one that the driver can be in, where there are as many places as the arrays have, but for its errors and its pools. Those
+// are tested beside it, the pools together with what a format's members share.
 pub fn places_valid(
     initialised: bool,
     controller_count: usize,
@@ -28,10 +31,11 @@ pub fn places_valid(
     fulls: &[bool],
 ) -> bool
     requires { ⌜ Places (now modes) (now requests) (now marks) (now owners) (now receivings) (now pools) (now pendings) (now dones) (now fulls) ⌝ }
-    ensures { λ r. ⌜ r
+    ensures { λ r. ⌜ ((recoverings : List Bool) (tx-errors rx-errors : List ℕ)
+        → r
         ≡ tests.places-valid (limits-of (length (now (modes .entry))) (length (now (owners .entry))))
         (core-in initialised «controller_count» «object_count» (now (modes .entry)) (now (requests .entry)) (now (marks .entry)) (now (owners .entry))
-        (now (receivings .entry)) (now (pools .entry)) (now (pendings .entry)) (now (dones .entry)) (now (fulls .entry))) ⌝ }
+        (now (receivings .entry)) (now (pools .entry)) (now (pendings .entry)) (now (dones .entry)) (now (fulls .entry)) recoverings tx-errors rx-errors)) ⌝ }
 {
     let counts = counts_suit(
         modes.len(),

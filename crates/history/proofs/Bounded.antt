@@ -8,12 +8,15 @@ use native.Mathlib.Omega.{arith}
 use lib.ListN.{length}
 use Rattle.rules.specs.Limits.{Limits, notification-limit}
 use Rattle.rules.specs.Format.{Format}
-use Rattle.rules.specs.Notification.{Notification, development-error}
+use Rattle.rules.specs.Notification.{Notification, development-error, error-passive-indication}
+use Rattle.rules.specs.Errors.{Errors, capped}
+use Rattle.rules.specs.Core.{Controller, controller-at, errors-at}
 use Rattle.rules.specs.Reason.{is-development-error}
 use Rattle.rules.specs.State.{State, valid}
 use Rattle.rules.specs.Outcome.{Outcome}
 use Rattle.rules.specs.Polls.{Visit, Turn, boxes-of}
-use Rattle.history.specs.Call.{Call, Init, DeInit, SetControllerMode, GetControllerMode, Write, MainFunctionWrite, MainFunctionRead, MainFunctionMode, MainFunctionBusOff, TxComplete, BusOffDetected, FrameArrived, performed}
+use Rattle.rules.specs.Events.{enters-passive, passive-report}
+use Rattle.history.specs.Call.{Call, Init, DeInit, SetControllerMode, AskController, Write, MainFunctionWrite, MainFunctionRead, MainFunctionMode, MainFunctionBusOff, TxComplete, BusOffDetected, ErrorsCounted, FrameArrived, performed}
 use Rattle.history.specs.Demand1.{error-record, service-number}
 use Rattle.laws.proofs.Tests.{cond-both}
 use Rattle.laws.proofs.Validity.{core-facts, state-core}
@@ -26,6 +29,12 @@ one-error : (service : Option ℕ) (r : ℕ) → length (error-record service r)
 one-error none r = omega arith
 one-error (some service) r =
     cond-both (λ (ns : List Notification). length ns ≤ 1) (is-development-error r) (development-error service r ∷ []) [] (λ t. omega arith) (λ t. omega arith)
+
+-- so does a controller that enters passive
+one-passive : (c tx rx : ℕ) (k : Controller) (e : Errors) → length (passive-report c tx rx k e) ≤ 1
+one-passive c tx rx k e =
+    cond-both (λ (ns : List Notification). length ns ≤ 1) (enters-passive tx rx k e) (error-passive-indication c (capped tx) (capped rx) ∷ []) []
+    (λ t. omega arith) (λ t. omega arith)
 
 module _ (L : Limits) (F : Format) (some-limit : 0 < notification-limit L) where
   abbrev Bounded : Outcome (State F) → Type 0
@@ -48,7 +57,7 @@ module _ (L : Limits) (F : Format) (some-limit : 0 < notification-limit L) where
     done-bounded (Init sheet bytes) = omega arith
     done-bounded (DeInit sheet) = omega arith
     done-bounded (SetControllerMode sheet c asked) = omega arith
-    done-bounded (GetControllerMode sheet c) = omega arith
+    done-bounded (AskController q sheet c) = omega arith
     done-bounded (Write sheet h handle fits frame) = omega arith
     done-bounded (MainFunctionWrite sheet) = visits-bounded _
     done-bounded (MainFunctionRead sheet) = visits-bounded _
@@ -56,6 +65,7 @@ module _ (L : Limits) (F : Format) (some-limit : 0 < notification-limit L) where
     done-bounded (MainFunctionBusOff sheet) = turns-fit _
     done-bounded (TxComplete h) = omega arith
     done-bounded (BusOffDetected c) = omega arith
+    done-bounded (ErrorsCounted sheet c tx rx) = omega (arith, one-passive c tx rx (controller-at (s .core .controllers) c) (errors-at (s .core .errors) c))
     done-bounded (FrameArrived sheet c frame) = received-cases L F s ram c frame Bounded (omega arith) (λ h. omega arith) (λ h e. omega arith)
 
     pub performed-bounded : (call : Call F) → Bounded (performed L F call s ram)

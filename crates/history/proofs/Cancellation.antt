@@ -9,11 +9,11 @@ use Rattle.rules.specs.Limits.{Limits}
 use Rattle.rules.specs.Format.{Format, Lawful}
 use Rattle.rules.specs.Notification.{Notification, tx-confirmation, tx-cancellation}
 use Rattle.rules.specs.Configuration.{Configuration, no-configuration}
-use Rattle.rules.specs.Core.{Controller, Owner, Mailbox, Core, owner-at, mailbox-at}
+use Rattle.rules.specs.Core.{Controller, Owner, Mailbox, Core, controller-at, errors-at, owner-at, mailbox-at}
 use Rattle.rules.specs.State.{State, initial-state}
 use Rattle.rules.specs.Outcome.{Outcome}
 use Rattle.rules.specs.Polls.{Boxes, Visit, Turn, closing-notification, visit-all, turn-all, boxes-of, confirmation, indication, closing, mode-change, going-off}
-use Rattle.history.specs.Call.{Call, Init, DeInit, SetControllerMode, GetControllerMode, Write, MainFunctionWrite, MainFunctionRead, MainFunctionMode, MainFunctionBusOff, TxComplete, BusOffDetected, FrameArrived, performed}
+use Rattle.history.specs.Call.{Call, Init, DeInit, SetControllerMode, AskController, Write, MainFunctionWrite, MainFunctionRead, MainFunctionMode, MainFunctionBusOff, TxComplete, BusOffDetected, ErrorsCounted, FrameArrived, performed}
 use Rattle.history.specs.Trace.{trace}
 use Rattle.history.specs.Effect.{Effect, accepted-effect, effect}
 use Rattle.history.specs.Account.{Account, closed, held, broken, in-force, account-after}
@@ -23,7 +23,7 @@ use Rattle.history.specs.LastFrame.{LastFrame, no-frame, frame-after}
 use Rattle.history.specs.Cancellation.{UnsentCancelled, OnlyUnsentCancelled, CancellationRule}
 use Rattle.laws.proofs.Tests.{cond-both, right, clash}
 use Rattle.history.proofs.Judged.{judgement, received-cases, performed-cases}
-use Rattle.history.proofs.Notices.{quiet-error, still-none}
+use Rattle.history.proofs.Notices.{quiet-error, quiet-passive, still-none}
 use Rattle.history.proofs.Sweeps.{Here, Keeps, visits-keep-here, turns-keep-here}
 use Rattle.history.proofs.Objects.{Matches, Follows, follows-on, follows-first}
 use Rattle.history.proofs.LastFrame.{Owned, owned-after}
@@ -96,7 +96,7 @@ module _ (L : Limits) (F : Format) (h : ℕ) where
     done-uncancelled (Init sheet bytes) sent = refl
     done-uncancelled (DeInit sheet) sent = refl
     done-uncancelled (SetControllerMode sheet c asked) sent = refl
-    done-uncancelled (GetControllerMode sheet c) sent = refl
+    done-uncancelled (AskController q sheet c) sent = refl
     done-uncancelled (Write sheet i handle fits frame) sent = refl
     done-uncancelled (MainFunctionWrite sheet) sent = visits-spared h _ (confirmation-spares h (L .object-size) ram) (s .core .object-count) (boxes-of (s .core)) (starts sent) .uncancelled
     done-uncancelled (MainFunctionRead sheet) sent = visits-spared h _ (indication-spares h (L .object-size) ram (L .length-size)) (s .core .object-count) (boxes-of (s .core)) (starts sent) .uncancelled
@@ -104,6 +104,7 @@ module _ (L : Limits) (F : Format) (h : ℕ) where
     done-uncancelled (MainFunctionBusOff sheet) sent = turns-spared h (L .object-size) ram going-off (s .core) (λ c k. refl) (starts sent) .uncancelled
     done-uncancelled (TxComplete i) sent = refl
     done-uncancelled (BusOffDetected c) sent = refl
+    done-uncancelled (ErrorsCounted sheet c tx rx) sent = quiet-passive (cancels h) (λ i t r. refl) c tx rx (controller-at (s .core .controllers) c) (errors-at (s .core .errors) c)
     done-uncancelled (FrameArrived sheet c frame) sent = received-cases L F s ram c frame (λ (o : Outcome (State F)). cancelled-in h (o .notifications) ≡ false) refl (λ i. refl) (λ i e. refl)
 
     pub performed-uncancelled : (call : Call F) → Uncancelled (effect F call (performed L F call s ram)) (performed L F call s ram)

@@ -11,18 +11,18 @@ use Rattle.rules.specs.Limits.{Limits}
 use Rattle.rules.specs.Format.{Format}
 use Rattle.rules.specs.Reason.{E-OK, first-reason, _then_}
 use Rattle.rules.specs.Notification.{Notification, data-lost}
-use Rattle.rules.specs.Core.{Core, controller-at, with-controllers, with-mailboxes, free-member}
+use Rattle.rules.specs.Core.{Core, controller-at, errors-at, with-controllers, with-mailboxes, with-errors, free-member}
 use Rattle.rules.specs.Configuration.{configuration-of}
 use Rattle.rules.specs.State.{State, with-core, initial-state}
-use Rattle.rules.specs.Outcome.{Outcome, Answer, no-answer, mode, taken-by, unwanted, lost, rejected, accepted, judged, lifted, state-gate, sheet-gate, full-gate}
+use Rattle.rules.specs.Outcome.{Outcome, Answer, no-answer, told, taken-by, unwanted, lost, rejected, accepted, judged, lifted, state-gate, sheet-gate, full-gate}
 use Rattle.rules.specs.Services as services
-use Rattle.rules.specs.Services.{deinit-checks, set-controller-mode-checks, get-controller-mode-checks, mode-requested, write-reason, taken}
+use Rattle.rules.specs.Services.{deinit-checks, set-controller-mode-checks, ask-controller-checks, answer-to, mode-requested, write-reason, taken}
 use Rattle.rules.specs.Polls as polls
-use Rattle.rules.specs.Polls.{Visit, Turn, visit-all, turn-all, boxes-of, after-sweep, confirmation, indication, mode-change, going-off}
+use Rattle.rules.specs.Polls.{Visit, Turn, visit-all, turn-all, boxes-of, after-sweep, errors-all, confirmation, indication, mode-change, going-off}
 use Rattle.rules.specs.Events as events
-use Rattle.rules.specs.Events.{tx-complete-checks, on-bus-checks, sent-mailbox, marked-bus-off}
-use Rattle.rules.specs.Calls.{init, deinit, set-controller-mode, get-controller-mode, write, main-function-write, main-function-read, main-function-mode, main-function-bus-off, tx-complete, bus-off-detected, frame-arrived, init-checks, configured-state, zero-ram, frame-reason, laid-down, best-object, stored, not-stored, received, arrival-reason}
-use Rattle.history.specs.Call.{Call, Init, DeInit, SetControllerMode, GetControllerMode, Write, MainFunctionWrite, MainFunctionRead, MainFunctionMode, MainFunctionBusOff, TxComplete, BusOffDetected, FrameArrived, performed}
+use Rattle.rules.specs.Events.{tx-complete-checks, on-bus-checks, sent-mailbox, marked-bus-off, errors-counted-reason, counted-controller, counted-errors, passive-report}
+use Rattle.rules.specs.Calls.{init, deinit, set-controller-mode, ask-controller, write, main-function-write, main-function-read, main-function-mode, main-function-bus-off, tx-complete, bus-off-detected, errors-counted, frame-arrived, init-checks, configured-state, zero-ram, frame-reason, laid-down, best-object, stored, not-stored, received, arrival-reason}
+use Rattle.history.specs.Call.{Call, Init, DeInit, SetControllerMode, AskController, Write, MainFunctionWrite, MainFunctionRead, MainFunctionMode, MainFunctionBusOff, TxComplete, BusOffDetected, ErrorsCounted, FrameArrived, performed}
 use Rattle.history.specs.Effect.{Effect, nothing, accepted-effect, effect}
 use Rattle.history.specs.Demand1.{error-record, service-number}
 use Rattle.laws.proofs.Tests.{cond-map}
@@ -53,7 +53,7 @@ module _ (L : Limits) (F : Format) where
   visits-done s ram v = let b = visit-all v (s .core .object-count) (boxes-of (s .core)) in core-done s ram (with-mailboxes (s .core) (b .mailboxes)) (b .notifications)
 
   abbrev pub turns-done : State F → List ℕ → Turn → Outcome (State F)
-  turns-done s ram t = let w = turn-all (L .object-size) t (s .core) ram in core-done s ram (after-sweep (s .core) w) (w .boxes .notifications)
+  turns-done s ram t = let w = turn-all (L .object-size) t (s .core) ram in let es = errors-all t (s .core .controller-count) (s .core .controllers) (s .core .errors) in core-done s ram (with-errors (after-sweep (s .core) w) es) (w .boxes .notifications)
 
   -- what becomes of a frame that arrives: no object fits, all that fit are full, or one takes it
   pub received-cases : (s : State F) (ram : List ℕ) (c : ℕ) (frame : F .Frame) (P : Outcome (State F) → Type 0)
@@ -80,11 +80,11 @@ module _ (L : Limits) (F : Format) where
       judging (full-gate L F s (length sheet) ram then first-reason (deinit-checks (s .core))) (accepted no-answer (initial-state L F) (zero-ram L F) []) refl
   judgement (SetControllerMode sheet c asked) s ram =
       judging (sheet-gate L F s (length sheet) then first-reason (set-controller-mode-checks (s .core) c asked)) (core-done s ram (mode-requested (s .core) c asked) []) refl
-  judgement (GetControllerMode sheet c) s ram =
+  judgement (AskController q sheet c) s ram =
       record {
-        reason = sheet-gate L F s (length sheet) then first-reason (get-controller-mode-checks (s .core) c);
-        denial = mode 0;
-        done = accepted (mode (controller-at (s .core .controllers) c .mode)) s ram [];
+        reason = sheet-gate L F s (length sheet) then first-reason (ask-controller-checks (s .core) c);
+        denial = told q 0;
+        done = accepted (told q (answer-to q (controller-at (s .core .controllers) c) (errors-at (s .core .errors) c))) s ram [];
         done-code = refl;
       }
   judgement (Write sheet h handle fits frame) s ram =
@@ -99,6 +99,12 @@ module _ (L : Limits) (F : Format) where
   judgement (BusOffDetected c) s ram =
       judging (state-gate L F s then first-reason (on-bus-checks (s .core) c))
       (core-done s ram (with-controllers (s .core) (set (s .core .controllers) c (marked-bus-off (controller-at (s .core .controllers) c)))) []) refl
+  judgement (ErrorsCounted sheet c tx rx) s ram =
+      let k = controller-at (s .core .controllers) c in
+      let e = errors-at (s .core .errors) c in
+      judging (sheet-gate L F s (length sheet) then errors-counted-reason (s .core) c tx rx)
+      (core-done s ram (with-errors (with-controllers (s .core) (set (s .core .controllers) c (counted-controller tx k))) (set (s .core .errors) c (counted-errors tx rx e)))
+      (passive-report c tx rx k e)) refl
   judgement (FrameArrived sheet c frame) s ram =
       judging (full-gate L F s (length sheet) ram then arrival-reason L F s c frame) (received L F s ram c frame (best-object L F s c frame false))
       (received-cases s ram c frame (λ (o : Outcome (State F)). o .code ≡ E-OK) refl (λ h. refl) (λ h e. refl))
@@ -109,11 +115,11 @@ module _ (L : Limits) (F : Format) where
 
   performed-judged : (call : Call F) (s : State F) (ram : List ℕ)
       → performed L F call s ram ≡ judged (judgement call s ram .reason) (rejected (error-record (service-number F call)) (judgement call s ram .denial) s ram) (judgement call s ram .done)
-  unfolding performed init deinit set-controller-mode get-controller-mode write main-function-write main-function-read main-function-mode main-function-bus-off tx-complete bus-off-detected frame-arrived services.set-controller-mode services.get-controller-mode polls.main-function-write polls.main-function-read polls.main-function-mode polls.main-function-bus-off events.tx-complete events.bus-off-detected
+  unfolding performed init deinit set-controller-mode ask-controller write main-function-write main-function-read main-function-mode main-function-bus-off tx-complete bus-off-detected errors-counted frame-arrived services.set-controller-mode services.ask-controller polls.main-function-write polls.main-function-read polls.main-function-mode polls.main-function-bus-off events.tx-complete events.bus-off-detected events.errors-counted
   performed-judged (Init sheet bytes) s ram = refl
   performed-judged (DeInit sheet) s ram = refl
   performed-judged (SetControllerMode sheet c asked) s ram = lifted-judged s ram _ _ _ _
-  performed-judged (GetControllerMode sheet c) s ram = lifted-judged s ram _ _ _ _
+  performed-judged (AskController q sheet c) s ram = lifted-judged s ram _ _ _ _
   performed-judged (Write sheet h handle fits frame) s ram = refl
   performed-judged (MainFunctionWrite sheet) s ram = lifted-judged s ram _ _ _ _
   performed-judged (MainFunctionRead sheet) s ram = lifted-judged s ram _ _ _ _
@@ -121,6 +127,7 @@ module _ (L : Limits) (F : Format) where
   performed-judged (MainFunctionBusOff sheet) s ram = lifted-judged s ram _ _ _ _
   performed-judged (TxComplete h) s ram = lifted-judged s ram _ _ _ _
   performed-judged (BusOffDetected c) s ram = lifted-judged s ram _ _ _ _
+  performed-judged (ErrorsCounted sheet c tx rx) s ram = lifted-judged s ram _ _ _ _
   performed-judged (FrameArrived sheet c frame) s ram = refl
 
   -- a property of every call, with its effect: of its refusal, which has none, and of what it leaves where it is accepted

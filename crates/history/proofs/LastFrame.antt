@@ -7,7 +7,7 @@ use lib.Dec.{eqb}
 use Rattle.rules.specs.Limits.{Limits}
 use Rattle.rules.specs.Format.{Format}
 use Rattle.rules.specs.Bytes.{same-bytes}
-use Rattle.rules.specs.Notification.{Notification, tx-confirmation, rx-indication, mode-indication, bus-off-indication, development-error, data-lost, tx-cancellation}
+use Rattle.rules.specs.Notification.{Notification, tx-confirmation, rx-indication, mode-indication, bus-off-indication, development-error, data-lost, tx-cancellation, error-passive-indication}
 use Rattle.rules.specs.Configuration.{Configuration, settings-at}
 use Rattle.rules.specs.State.{State}
 use Rattle.rules.specs.Outcome.{Outcome}
@@ -49,6 +49,7 @@ module _ (L : Limits) (F : Format) (h : ℕ) where
   owned-notification x a (bus-off-indication c) p = p
   owned-notification x a (development-error service error) p = p
   owned-notification x a (data-lost i) p = p
+  owned-notification x a (error-passive-indication c tx rx) p = p
 
   owned-notifications : (x : LastFrame) (a : Account) (ns : List Notification) → Owned a x → Owned (after-notifications h a ns) x
   unfolding after-notifications

@@ -14,4 +14,5 @@ pub mod PollRule
 pub mod Proved
 pub mod Demand1
 pub mod Operators
+pub mod ErrorStates
 pub mod Replay

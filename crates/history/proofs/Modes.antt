@@ -8,33 +8,35 @@ use native.Mathlib.Decide.{ℕ-discrete, decLt}
 use lib.ListN.{length, set, List·getD-eq-default}
 use lib.Seq.{getD-set-same, getD-set-other}
 use lib.Dec.{eqb, ltb}
-use borrow.Author.Tests.{eqb-true, eq-eqb, ne-eqb, ltb-true, le-ltb}
+use borrow.Author.Tests.{eqb-true, eq-eqb, ne-eqb, ltb-true, lt-ltb, le-ltb}
 use Rattle.rules.specs.Limits.{Limits}
 use Rattle.rules.specs.Format.{Format, Lawful}
 use Rattle.rules.specs.Repeat.{list-below}
 use Rattle.rules.specs.Mode.{UNINIT, NO-REQUEST, permitted}
 use Rattle.rules.specs.Reason.{first-reason, reasons-named}
+use Rattle.rules.specs.Errors.{above-bus-off}
 use Rattle.rules.specs.Core.{Controller, Core, idle-controller, controller-at, controller-idle, in-use}
 use Rattle.rules.specs.Configuration.{controllers-byte, configuration-of, accepted-bytes}
 use Rattle.rules.specs.State.{State, valid}
-use Rattle.rules.specs.Outcome.{Outcome, mode, full-gate, sheet-gate, state-gate}
+use Rattle.rules.specs.Outcome.{Outcome, of-mode, of-error-state, of-rx-errors, of-tx-errors, told, full-gate, sheet-gate, state-gate}
 use Rattle.rules.specs.Services.{set-controller-mode-checks, stopped-controller, with-request}
 use Rattle.rules.specs.Polls.{Turn, turn-all, mode-change, going-off}
-use Rattle.rules.specs.Events.{on-bus-checks, marked-bus-off}
+use Rattle.rules.specs.Events.{on-bus-checks, marked-bus-off, errors-counted-reason, counted-controller}
 use Rattle.rules.specs.Calls.{init-checks, configured-state}
-use Rattle.history.specs.Call.{Call, Init, DeInit, SetControllerMode, GetControllerMode, Write, MainFunctionWrite, MainFunctionRead, MainFunctionMode, MainFunctionBusOff, TxComplete, BusOffDetected, FrameArrived, performed}
+use Rattle.history.specs.Call.{Call, Init, DeInit, SetControllerMode, AskController, Write, MainFunctionWrite, MainFunctionRead, MainFunctionMode, MainFunctionBusOff, TxComplete, BusOffDetected, ErrorsCounted, FrameArrived, performed}
 use Rattle.history.specs.Trace.{trace, left-by}
 use Rattle.history.specs.Effect.{Effect, accepted-effect, effect}
-use Rattle.history.specs.Reference.{Reference, takes-wish, entry, reference-after, reference-by}
-use Rattle.history.specs.Claim.{ModeKept, ModesKept, asks-mode, is-mode-poll}
+use Rattle.history.specs.Reference.{Reference, takes-wish, entry, marked-if, reference-after, reference-by}
+use Rattle.history.specs.Claim.{ModeKept, ModesKept, asks, is-mode-poll}
 use Rattle.laws.proofs.Tests.{left, right, clash, cond-map, not-true, not-false, and-false, cond-same}
 use Rattle.laws.proofs.Repeat.{length-list-below, getD-list-below, replicate-default}
 use Rattle.laws.proofs.Reasons.{then-second, check-passed}
+use Rattle.laws.proofs.Acceptance.{counted-passed}
+use Rattle.laws.proofs.Sweeps.{turns-beyond, turns-below}
 use Rattle.laws.proofs.Validity.{Valid, core-facts, state-core}
 use Rattle.laws.proofs.Changes.{controllers-within}
 use Rattle.laws.proofs.StaysValid.{configured-valid, own-controller, waiting-permitted}
 use Rattle.history.proofs.Judged.{judgement, received-cases, performed-cases}
-use Rattle.history.proofs.Sweeps.{turns-beyond, turns-below}
 use Rattle.history.proofs.Steps.{performed-valid}
 
 -- an idle controller is the one at rest
@@ -56,7 +58,7 @@ accepted-controllers L F bytes a =
 
 -- a controller that Init puts in place: below the count it is stopped, above it at rest
 module _ (n : ℕ) where
-  abbrev put : ℕ → Controller
+  abbrev pub put : ℕ → Controller
   put k = cond (ltb k n) stopped-controller idle-controller
 
   put-entry : (places c : ℕ) → n ≤ places → cond (ltb c n) (entry stopped-controller) (entry idle-controller) ≡ entry (controller-at (list-below places put) c)
@@ -68,7 +70,7 @@ module _ (n : ℕ) where
 
 module _ (L : Limits) (c : ℕ) (core : Core) (v : Valid L core) where
   -- a controller that is not in use is at rest
-  unused-idle : core .controller-count ≤ c → controller-at (core .controllers) c ≡ idle-controller
+  pub unused-idle : core .controller-count ≤ c → controller-at (core .controllers) c ≡ idle-controller
   unused-idle n = go (decLt c (L .controllers))
     where
       go : Dec (c < L .controllers) → controller-at (core .controllers) c ≡ idle-controller
@@ -76,7 +78,7 @@ module _ (L : Limits) (c : ℕ) (core : Core) (v : Valid L core) where
       go (no l) = List·getD-eq-default (core .controllers) idle-controller (rw (v .controller-places) (omega arith))
 
   -- before Init every controller is
-  idle-before : core .initialised ≡ false → controller-at (core .controllers) c ≡ idle-controller
+  pub idle-before : core .initialised ≡ false → controller-at (core .controllers) c ≡ idle-controller
   idle-before off =
       let none-used = eqb-true (core .controller-count) 0 (left (eqb (core .controller-count) 0) (eqb (core .object-count) 0) (rw off at (v .counts))) in
       unused-idle (omega arith)
@@ -95,6 +97,14 @@ module _ (L : Limits) (c : ℕ) (core : Core) (v : Valid L core) where
           let inside : c < length (core .controllers) = omega (arith, within, ltb-true k (core .controller-count) used) in
           rw (e, eq-eqb c c refl, getD-set-same (core .controllers) c (change (controller-at (core .controllers) c)) idle-controller inside)
       go (no d) = rw (ne-eqb k c d, getD-set-other (core .controllers) k c (change (controller-at (core .controllers) k)) idle-controller (λ e. d (sym e)))
+
+  -- one whose errors are counted is marked, or stays as it was
+  counted-entry : (k tx : ℕ) → k < core .controller-count
+      → cond (eqb k c) (marked-if (above-bus-off tx) (entry (controller-at (core .controllers) c))) (entry (controller-at (core .controllers) c))
+      ≡ entry (controller-at (set (core .controllers) k (counted-controller tx (controller-at (core .controllers) k))) c)
+  counted-entry k tx used =
+      ap (λ (r : Reference). cond (eqb k c) r (entry (controller-at (core .controllers) c))) (sym (cond-map entry (above-bus-off tx) (marked-bus-off (controller-at (core .controllers) c)) (controller-at (core .controllers) c)))
+      ∙ changed-entry k (counted-controller tx) (lt-ltb k (core .controller-count) used)
 
   -- a poll over the controllers gives controller c its turn, if it is due
   turned-entry : (size : ℕ) (t : Turn) (ram : List ℕ) → t .due idle-controller ≡ false
@@ -125,7 +135,7 @@ module _ (L : Limits) (F : Format) (c : ℕ) where
   abbrev Follows : State F → Effect F → Outcome (State F) → Type 0
   Follows s e o = reference-after L F c (entry (control s)) e ≡ entry (control (o .state))
 
-  done-follows : (call : Call F) (s : State F) (ram : List ℕ) → Valid L (s .core) → judgement L F call s ram .reason ≡ 0
+  pub done-follows : (call : Call F) (s : State F) (ram : List ℕ) → Valid L (s .core) → judgement L F call s ram .reason ≡ 0
       → Follows s (accepted-effect F call (judgement L F call s ram .done .answer)) (judgement L F call s ram .done)
   unfolding reasons-named configuration-of
   done-follows (Init sheet bytes) s ram v r =
@@ -137,7 +147,7 @@ module _ (L : Limits) (F : Format) (c : ℕ) where
   done-follows (SetControllerMode sheet k asked) s ram v r =
       let checks = set-controller-mode-checks (s .core) k asked in
       changed-entry L c (s .core) v k (λ x. with-request asked x) (not-false (in-use (s .core) k) (check-passed 1 checks refl (then-second (sheet-gate L F s (length sheet)) (first-reason checks) r)))
-  done-follows (GetControllerMode sheet k) s ram v r = cond-same (eqb k c) (entry (control s))
+  done-follows (AskController q sheet k) s ram v r = cond-same (eqb k c) (entry (control s))
   done-follows (Write sheet h handle fits frame) s ram v r = refl
   done-follows (MainFunctionWrite sheet) s ram v r = refl
   done-follows (MainFunctionRead sheet) s ram v r = refl
@@ -147,6 +157,8 @@ module _ (L : Limits) (F : Format) (c : ℕ) where
   done-follows (BusOffDetected k) s ram v r =
       let checks = on-bus-checks (s .core) k in
       changed-entry L c (s .core) v k marked-bus-off (not-false (in-use (s .core) k) (check-passed 1 checks refl (then-second (state-gate L F s) (first-reason checks) r)))
+  done-follows (ErrorsCounted sheet k tx rx) s ram v r =
+      counted-entry L c (s .core) v k tx (counted-passed (s .core) k tx rx (then-second (sheet-gate L F s (length sheet)) (errors-counted-reason (s .core) k tx rx) r) .used)
   done-follows (FrameArrived sheet k frame) s ram v r = received-cases L F s ram k frame (λ (o : Outcome (State F)). entry (control s) ≡ entry (control (o .state))) refl (λ h. refl) (λ h e. refl)
 
   pub performed-follows : (call : Call F) (s : State F) (ram : List ℕ) → valid L F s ≡ true → Follows s (effect F call (performed L F call s ram)) (performed L F call s ram)
@@ -155,10 +167,13 @@ module _ (L : Limits) (F : Format) (c : ℕ) where
 
   -- the question for a mode is answered by it; any other call is no question
   abbrev Answered : Effect F → Outcome (State F) → Type 0
-  Answered e o = asks-mode L F c e ≡ true → o .answer ≡ mode (control (o .state) .mode)
+  Answered e o = asks L F of-mode c e ≡ true → o .answer ≡ told of-mode (control (o .state) .mode)
 
   done-answered : (call : Call F) (s : State F) (ram : List ℕ) → Answered (accepted-effect F call (judgement L F call s ram .done .answer)) (judgement L F call s ram .done)
-  done-answered (GetControllerMode sheet k) s ram t = ap (λ (i : ℕ). mode (controller-at (s .core .controllers) i .mode)) (eqb-true k c (left (eqb k c) true t))
+  done-answered (AskController of-mode sheet k) s ram t = ap (λ (i : ℕ). told of-mode (controller-at (s .core .controllers) i .mode)) (eqb-true k c (left (eqb k c) true t))
+  done-answered (AskController of-error-state sheet k) s ram t = clash t (and-false (eqb k c))
+  done-answered (AskController of-rx-errors sheet k) s ram t = clash t (and-false (eqb k c))
+  done-answered (AskController of-tx-errors sheet k) s ram t = clash t (and-false (eqb k c))
   done-answered (Init sheet bytes) s ram t = clash t refl
   done-answered (DeInit sheet) s ram t = clash t refl
   done-answered (SetControllerMode sheet k asked) s ram t = clash t (and-false (eqb k c))
@@ -169,6 +184,7 @@ module _ (L : Limits) (F : Format) (c : ℕ) where
   done-answered (MainFunctionBusOff sheet) s ram t = clash t refl
   done-answered (TxComplete h) s ram t = clash t refl
   done-answered (BusOffDetected k) s ram t = clash t (and-false (eqb k c))
+  done-answered (ErrorsCounted sheet k tx rx) s ram t = clash t (and-false (eqb k c))
   done-answered (FrameArrived sheet k frame) s ram t = clash t refl
 
   -- one call
@@ -178,7 +194,7 @@ module _ (L : Limits) (F : Format) (c : ℕ) where
       let follows = performed-follows call s ram v in
       record {
         in-state = ap (λ (r : Reference). r .mode) (sym follows);
-        answered = λ t. performed-cases L F Answered call s ram (λ refused q. clash q refl) (λ r. done-answered call s ram) t ∙ ap (λ (r : Reference). mode (r .mode)) (sym follows);
+        answered = λ t. performed-cases L F Answered call s ram (λ refused q. clash q refl) (λ r. done-answered call s ram) t ∙ ap (λ (r : Reference). told of-mode (r .mode)) (sym follows);
         wish-permitted = λ t. wish-is-permitted L c (s .core) (core-facts L (s .core) (state-core L F s v)) (right (is-mode-poll L F (effect F call (performed L F call s ram))) (takes-wish (entry (control s))) t);
       }
 

@@ -6,9 +6,11 @@ use mathlib.Core.List.{List, [], _∷_, _++_}
 use mathlib.Core.Option.{Option, none, some}
 use lib.Dec.{eqb}
 use Rattle.rules.specs.Reason.{is-development-error}
-use Rattle.rules.specs.Notification.{Notification, tx-confirmation, rx-indication, mode-indication, bus-off-indication, development-error, data-lost, tx-cancellation}
-use Rattle.rules.specs.Core.{Mailbox}
+use Rattle.rules.specs.Notification.{Notification, tx-confirmation, rx-indication, mode-indication, bus-off-indication, development-error, data-lost, tx-cancellation, error-passive-indication}
+use Rattle.rules.specs.Errors.{Errors, capped}
+use Rattle.rules.specs.Core.{Controller, Mailbox}
 use Rattle.rules.specs.Polls.{closing-notification}
+use Rattle.rules.specs.Events.{enters-passive, passive-report}
 use Rattle.history.specs.Account.{Account, after-notification, after-notifications}
 use Rattle.history.specs.Demand1.{error-record}
 use Rattle.history.specs.Notices.{one-of, closes, closed-in}
@@ -20,6 +22,13 @@ unfolding one-of
 quiet-error such quiet none r = refl
 quiet-error such quiet (some service) r =
     cond-both (λ (ns : List Notification). one-of such ns ≡ false) (is-development-error r) (development-error service r ∷ []) [] (λ t. rw (quiet service r)) (λ t. refl)
+
+-- nor is the record of a controller that enters passive
+pub quiet-passive : (such : Notification → Bool) → ((c tx rx : ℕ) → such (error-passive-indication c tx rx) ≡ false) → (c tx rx : ℕ) (k : Controller) (e : Errors) → one-of such (passive-report c tx rx k e) ≡ false
+unfolding one-of
+quiet-passive such quiet c tx rx k e =
+    cond-both (λ (ns : List Notification). one-of such ns ≡ false) (enters-passive tx rx k e) (error-passive-indication c (capped tx) (capped rx) ∷ []) []
+    (λ t. rw (quiet c (capped tx) (capped rx))) (λ t. refl)
 
 -- one notification more, which is not such either
 pub still-none : (such : Notification → Bool) (ns : List Notification) (n : Notification) → one-of such ns ≡ false → such n ≡ false → one-of such (ns ++ (n ∷ [])) ≡ false
@@ -42,6 +51,7 @@ unclosed-one h (mode-indication c m) x e = refl
 unclosed-one h (bus-off-indication c) x e = refl
 unclosed-one h (development-error service error) x e = refl
 unclosed-one h (data-lost i) x e = refl
+unclosed-one h (error-passive-indication c tx rx) x e = refl
 
 pub unclosed : (h : ℕ) (ns : List Notification) (x : Account) → closed-in h ns ≡ false → after-notifications h x ns ≡ x
 unfolding one-of after-notifications

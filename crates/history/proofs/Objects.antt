@@ -19,7 +19,7 @@ use Rattle.rules.specs.Repeat.{all-below}
 use Rattle.rules.specs.Bytes.{splice}
 use Rattle.rules.specs.Reason.{first-reason, _then_, reasons-named}
 use Rattle.rules.specs.Notification.{Notification, tx-confirmation, data-lost, tx-cancellation}
-use Rattle.rules.specs.Core.{Controller, Owner, Mailbox, Core, empty-mailbox, controller-at, owner-at, mailbox-at, mailbox-valid, mailbox-empty, is-started, is-sending, controller-of, with-mailboxes, free-member}
+use Rattle.rules.specs.Core.{Controller, Owner, Mailbox, Core, empty-mailbox, controller-at, errors-at, owner-at, mailbox-at, mailbox-valid, mailbox-empty, is-started, is-sending, controller-of, with-mailboxes, free-member}
 use Rattle.rules.specs.Configuration.{Configuration, no-configuration}
 use Rattle.rules.specs.State.{State, with-core, valid, initial-state}
 use Rattle.rules.specs.Outcome.{Outcome, Answer, taken-by, stored-in, unwanted, lost, accepted, full-gate, state-gate}
@@ -28,9 +28,9 @@ use Rattle.rules.specs.Polls.{Boxes, Visit, Turn, closing-notification, object-
 use Rattle.rules.specs.Events as events
 use Rattle.rules.specs.Events.{tx-complete-checks, on-bus-checks, sent-mailbox, filled-mailbox, has-unsent, fits-frame}
 use Rattle.rules.specs.Calls.{init-checks, settings-of-object, frame-reason, best-object, stored}
-use Rattle.history.specs.Call.{Call, Init, DeInit, SetControllerMode, GetControllerMode, Write, MainFunctionWrite, MainFunctionRead, MainFunctionMode, MainFunctionBusOff, TxComplete, BusOffDetected, FrameArrived, performed}
+use Rattle.history.specs.Call.{Call, Init, DeInit, SetControllerMode, AskController, Write, MainFunctionWrite, MainFunctionRead, MainFunctionMode, MainFunctionBusOff, TxComplete, BusOffDetected, ErrorsCounted, FrameArrived, performed}
 use Rattle.history.specs.Trace.{trace}
-use Rattle.history.specs.Effect.{Effect, nothing, configuring, configured, unconfigured, at-object, written, completed, at-controller, mode-asked, mode-told, bus-off, polling, of-writes, of-modes, of-buses-off, accepted-effect, effect}
+use Rattle.history.specs.Effect.{Effect, nothing, configuring, configured, unconfigured, at-object, written, completed, at-controller, mode-asked, question-asked, bus-off, counted, polling, of-writes, of-modes, of-buses-off, accepted-effect, effect}
 use Rattle.history.specs.Account.{Account, closed, held, broken, after-sent, after-notification, after-notifications, in-force, after-effect, compared, account-after, account, intact}
 use Rattle.history.specs.Demand1.{service-number}
 use Rattle.history.specs.Notices.{closes}
@@ -45,7 +45,7 @@ use Rattle.laws.proofs.Acceptance.{WritePassed, gate-passed, write-passed}
 use Rattle.laws.proofs.Choice.{choice-tells}
 use Rattle.laws.proofs.StaysValid.{initial-valid, own-mailbox, pending-facts}
 use Rattle.history.proofs.Judged.{judgement, denied, core-done, visits-done, turns-done, received-cases, performed-cases}
-use Rattle.history.proofs.Notices.{quiet-error, closes-named, unclosed, after-more, after-unclosed}
+use Rattle.history.proofs.Notices.{quiet-error, quiet-passive, closes-named, unclosed, after-more, after-unclosed}
 use Rattle.history.proofs.Sweeps.{Here, Keeps, visits-keep-here, turns-keep-here}
 use Rattle.history.proofs.Steps.{performed-valid}
 
@@ -388,7 +388,7 @@ module _ (L : Limits) (F : Format) (h : ℕ) where
         (none-started-pending L (s .core) v h (check-passed 0 checks refl (then-second (full-gate L F s (length sheet) ram) (first-reason checks) r)))
         (ap (λ (m : Mailbox). m .tx-pending) (replicate-default (L .objects) h empty-mailbox)) refl
     done-agrees lawful (SetControllerMode sheet c asked) r = kept (at-controller c (mode-asked asked)) (judgement L F (SetControllerMode sheet c asked) s ram .done) refl refl refl refl
-    done-agrees lawful (GetControllerMode sheet c) r = kept (at-controller c mode-told) (judgement L F (GetControllerMode sheet c) s ram .done) refl refl refl refl
+    done-agrees lawful (AskController q sheet c) r = kept (at-controller c (question-asked q)) (judgement L F (AskController q sheet c) s ram .done) refl refl refl refl
     done-agrees lawful (Write sheet i handle fits frame) r =
         let gate = full-gate L F s (length sheet) ram in
         let own = write-reason (s .core) i (frame-reason L F s i frame) in
@@ -405,6 +405,8 @@ module _ (L : Limits) (F : Format) (h : ℕ) where
         let own = then-second (state-gate L F s) (first-reason checks) r in
         sent-agrees i (not-false (is-sending (s .core) i) (check-passed 1 checks refl own)) (not-false (has-unsent (mailbox-at (s .core .mailboxes) i)) (check-passed 2 checks refl own)) (ℕ-discrete i h)
     done-agrees lawful (BusOffDetected c) r = kept (at-controller c bus-off) (judgement L F (BusOffDetected c) s ram .done) refl refl refl refl
+    done-agrees lawful (ErrorsCounted sheet c tx rx) r =
+        kept (at-controller c (counted tx rx)) (judgement L F (ErrorsCounted sheet c tx rx) s ram .done) refl refl refl (unclosed h _ a (quiet-passive (closes h) (λ i t x. refl) c tx rx (controller-at (s .core .controllers) c) (errors-at (s .core .errors) c)))
     done-agrees lawful (FrameArrived sheet c frame) r =
         let gate = full-gate L F s (length sheet) ram in
         let bus = first-reason (on-bus-checks (s .core) c) in
@@ -426,7 +428,7 @@ module _ (L : Limits) (F : Format) (h : ℕ) where
   done-force (Init sheet bytes) s ram = refl
   done-force (DeInit sheet) s ram = refl
   done-force (SetControllerMode sheet c asked) s ram = refl
-  done-force (GetControllerMode sheet c) s ram = refl
+  done-force (AskController q sheet c) s ram = refl
   done-force (Write sheet i handle fits frame) s ram = refl
   done-force (MainFunctionWrite sheet) s ram = refl
   done-force (MainFunctionRead sheet) s ram = refl
@@ -434,6 +436,7 @@ module _ (L : Limits) (F : Format) (h : ℕ) where
   done-force (MainFunctionBusOff sheet) s ram = refl
   done-force (TxComplete i) s ram = refl
   done-force (BusOffDetected c) s ram = refl
+  done-force (ErrorsCounted sheet c tx rx) s ram = refl
   done-force (FrameArrived sheet c frame) s ram = received-cases L F s ram c frame (λ (o : Outcome (State F)). configuration s ≡ configuration (o .state)) refl (λ i. refl) (λ i e. refl)
 
   -- what holds of an object between two calls

@@ -12,13 +12,13 @@ use Rattle.rules.specs.Limits.{Limits}
 use Rattle.rules.specs.Format.{Format, Lawful}
 use Rattle.rules.specs.Bytes.{same-bytes}
 use Rattle.rules.specs.Mode.{STARTED, STOPPED, NO-REQUEST}
-use Rattle.rules.specs.Notification.{Notification, tx-confirmation, rx-indication, mode-indication, bus-off-indication, development-error, data-lost, tx-cancellation}
+use Rattle.rules.specs.Notification.{Notification, tx-confirmation, rx-indication, mode-indication, bus-off-indication, development-error, data-lost, tx-cancellation, error-passive-indication}
 use Rattle.rules.specs.Core.{Mailbox, empty-mailbox, idle-controller, controller-at, owner-at, mailbox-at}
 use Rattle.rules.specs.Configuration.{Configuration, no-configuration}
 use Rattle.rules.specs.State.{State, initial-state}
 use Rattle.rules.specs.Outcome.{Outcome}
 use Rattle.rules.specs.Polls.{object-in, boxes-of, confirmation}
-use Rattle.history.specs.Call.{Call, Init, DeInit, SetControllerMode, GetControllerMode, Write, MainFunctionWrite, MainFunctionRead, MainFunctionMode, MainFunctionBusOff, TxComplete, BusOffDetected, FrameArrived, performed}
+use Rattle.history.specs.Call.{Call, Init, DeInit, SetControllerMode, AskController, Write, MainFunctionWrite, MainFunctionRead, MainFunctionMode, MainFunctionBusOff, TxComplete, BusOffDetected, ErrorsCounted, FrameArrived, performed}
 use Rattle.history.specs.Trace.{trace, left-by, is-accepted}
 use Rattle.history.specs.Effect.{AtObject, written, completed, Effect, nothing, configuring, at-object, at-controller, polling, accepted-effect, effect}
 use Rattle.history.specs.Account.{Account, closed, held, broken, after-sent, after-notification, after-notifications, in-force, force-by, after-own, after-effect, compared, account-after, account}
@@ -54,6 +54,7 @@ stays-broken h (n ∷ ns) = ap (λ (x : Account). after-notifications h x ns) (o
     one (bus-off-indication c) = refl
     one (development-error service error) = refl
     one (data-lost i) = refl
+    one (error-passive-indication c tx rx) = refl
 
 -- a broken account agrees with nothing
 not-broken : (m : Mailbox) (bytes : List ℕ) (a : Account) → Matches m bytes a → a ≡ broken → ⊥
@@ -90,6 +91,7 @@ module _ (h k : ℕ) (b : List ℕ) (m : Mailbox) (bytes : List ℕ) (free : m .
       go (bus-off-indication i) c rest p = later (bus-off-indication i) refl rest p
       go (development-error service error) c rest p = later (development-error service error) refl rest p
       go (data-lost i) c rest p = later (data-lost i) refl rest p
+      go (error-passive-indication i tx rx) c rest p = later (error-passive-indication i tx rx) refl rest p
 
   confirmed : (ns : List Notification) → cancelled-in h ns ≡ false → Closed (held k b true) ns → Reported (tx-confirmation h k) ns
   unfolding one-of after-notifications
@@ -184,7 +186,7 @@ module _ (L : Limits) (F : Format) (h : ℕ) where
   done-keeps-force (Init sheet bytes) s ram cfg pending = clash pending (ap (λ (m : Mailbox). m .tx-pending) (replicate-default (L .objects) h empty-mailbox))
   done-keeps-force (DeInit sheet) s ram cfg pending = clash pending (ap (λ (m : Mailbox). m .tx-pending) (replicate-default (L .objects) h empty-mailbox))
   done-keeps-force (SetControllerMode sheet c asked) s ram cfg pending = refl
-  done-keeps-force (GetControllerMode sheet c) s ram cfg pending = refl
+  done-keeps-force (AskController q sheet c) s ram cfg pending = refl
   done-keeps-force (Write sheet i handle fits frame) s ram cfg pending = refl
   done-keeps-force (MainFunctionWrite sheet) s ram cfg pending = refl
   done-keeps-force (MainFunctionRead sheet) s ram cfg pending = refl
@@ -192,6 +194,7 @@ module _ (L : Limits) (F : Format) (h : ℕ) where
   done-keeps-force (MainFunctionBusOff sheet) s ram cfg pending = refl
   done-keeps-force (TxComplete i) s ram cfg pending = refl
   done-keeps-force (BusOffDetected c) s ram cfg pending = refl
+  done-keeps-force (ErrorsCounted sheet c tx rx) s ram cfg pending = refl
   done-keeps-force (FrameArrived sheet c frame) s ram cfg pending = refl
 
   same-force : (call : Call F) (s : State F) (ram : List ℕ) (cfg : Configuration F) → KeepsForce cfg (effect F call (performed L F call s ram)) (performed L F call s ram)
@@ -257,7 +260,7 @@ module _ (L : Limits) (F : Format) (h : ℕ) where
     done-frees (Init sheet bytes) t e v = clash t refl
     done-frees (DeInit sheet) t e v = clash t refl
     done-frees (SetControllerMode sheet c asked) t e v = clash t refl
-    done-frees (GetControllerMode sheet c) t e v = clash t refl
+    done-frees (AskController q sheet c) t e v = clash t refl
     done-frees (Write sheet i handle fits frame) t e v = clash t refl
     done-frees (MainFunctionWrite sheet) t e v =
         ap (λ (m : Mailbox). m .tx-pending) (boxes-below (confirmation (L .object-size) ram) (boxes-of (s .core)) (s .core .object-count) h in-use) ∙ rw done
@@ -271,6 +274,7 @@ module _ (L : Limits) (F : Format) (h : ℕ) where
         left-bus (judgement L F (MainFunctionBusOff sheet) s ram .done) (record { mode = STOPPED; wish = NO-REQUEST; mark = false }) (rw t at e) refl refl v
     done-frees (TxComplete i) t e v = clash t refl
     done-frees (BusOffDetected c) t e v = clash t refl
+    done-frees (ErrorsCounted sheet c tx rx) t e v = clash t refl
     done-frees (FrameArrived sheet c frame) t e v = clash t refl
 
     performed-frees : (call : Call F) → Frees (effect F call (performed L F call s ram)) (performed L F call s ram)

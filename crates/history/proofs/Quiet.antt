@@ -8,11 +8,11 @@ use lib.Dec.{eqb}
 use borrow.Author.Tests.{eqb-true}
 use Rattle.rules.specs.Limits.{Limits}
 use Rattle.rules.specs.Format.{Format}
-use Rattle.rules.specs.Core.{Controller, Core, controller-at, owner-at, mailbox-at}
+use Rattle.rules.specs.Core.{Controller, Core, controller-at, errors-at, owner-at, mailbox-at}
 use Rattle.rules.specs.State.{State}
 use Rattle.rules.specs.Outcome.{Outcome}
 use Rattle.rules.specs.Polls.{Boxes, Turn, turn-all, boxes-of, indication, mode-change, going-off}
-use Rattle.history.specs.Call.{Call, Init, DeInit, SetControllerMode, GetControllerMode, Write, MainFunctionWrite, MainFunctionRead, MainFunctionMode, MainFunctionBusOff, TxComplete, BusOffDetected, FrameArrived, performed}
+use Rattle.history.specs.Call.{Call, Init, DeInit, SetControllerMode, AskController, Write, MainFunctionWrite, MainFunctionRead, MainFunctionMode, MainFunctionBusOff, TxComplete, BusOffDetected, ErrorsCounted, FrameArrived, performed}
 use Rattle.history.specs.Reference.{entry}
 use Rattle.history.specs.Effect.{Effect, accepted-effect, effect}
 use Rattle.history.specs.Demand1.{service-number}
@@ -20,7 +20,7 @@ use Rattle.history.specs.PollRule.{closes-sent}
 use Rattle.history.specs.Notices.{one-of, closes, closed-in}
 use Rattle.laws.proofs.Tests.{left, both, clash}
 use Rattle.history.proofs.Judged.{judgement, received-cases, performed-cases}
-use Rattle.history.proofs.Notices.{quiet-error, still-none}
+use Rattle.history.proofs.Notices.{quiet-error, quiet-passive, still-none}
 use Rattle.history.proofs.Sweeps.{visits-keep}
 use Rattle.history.proofs.Untouched.{Untouched, at-first, turns-untouched}
 
@@ -44,7 +44,7 @@ module _ (L : Limits) (F : Format) (h : ℕ) (s : State F) (ram : List ℕ) (c :
   done-quiet (Init sheet bytes) n = refl
   done-quiet (DeInit sheet) n = refl
   done-quiet (SetControllerMode sheet k asked) n = refl
-  done-quiet (GetControllerMode sheet k) n = refl
+  done-quiet (AskController q sheet k) n = refl
   done-quiet (Write sheet i handle fits frame) n = refl
   done-quiet (MainFunctionWrite sheet) n = clash refl n
   done-quiet (MainFunctionRead sheet) n =
@@ -53,6 +53,7 @@ module _ (L : Limits) (F : Format) (h : ℕ) (s : State F) (ram : List ℕ) (c :
   done-quiet (MainFunctionBusOff sheet) n = staying-untouched (L .object-size) going-off (s .core) ram h (λ k x. refl) c own (λ due leaves. clash due n) .unclosed
   done-quiet (TxComplete i) n = refl
   done-quiet (BusOffDetected k) n = refl
+  done-quiet (ErrorsCounted sheet k tx rx) n = quiet-passive (closes h) (λ i t r. refl) k tx rx (controller-at (s .core .controllers) k) (errors-at (s .core .errors) k)
   done-quiet (FrameArrived sheet k frame) n = received-cases L F s ram k frame (λ (o : Outcome (State F)). closed-in h (o .notifications) ≡ false) refl (λ i. refl) (λ i e. refl)
 
   pub performed-quiet : (call : Call F) → Quiet (effect F call (performed L F call s ram)) (performed L F call s ram)

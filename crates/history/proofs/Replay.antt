@@ -14,7 +14,7 @@ use Rattle.rules.specs.State.{State, valid}
 use Rattle.rules.specs.Outcome.{Outcome, state-gate, sheet-gate, full-gate}
 use Rattle.laws.proofs.Tests.{clash}
 use Rattle.laws.proofs.Splices.{splice-nil}
-use Rattle.history.specs.Call.{Call, Init, DeInit, SetControllerMode, GetControllerMode, Write, MainFunctionWrite, MainFunctionRead, MainFunctionMode, MainFunctionBusOff, TxComplete, BusOffDetected, FrameArrived, performed}
+use Rattle.history.specs.Call.{Call, Init, DeInit, SetControllerMode, AskController, Write, MainFunctionWrite, MainFunctionRead, MainFunctionMode, MainFunctionBusOff, TxComplete, BusOffDetected, ErrorsCounted, FrameArrived, performed}
 use Rattle.history.specs.Trace.{Left, left-by}
 use Rattle.history.specs.Effect.{Effect}
 use Rattle.history.specs.Demand1.{error-record, service-number}
@@ -58,7 +58,7 @@ module _ (L : Limits) (F : Format) where
     refused (Init sheet bytes) = rw unsound
     refused (DeInit sheet) = rw unsound
     refused (SetControllerMode sheet c asked) = rw unsound
-    refused (GetControllerMode sheet c) = rw unsound
+    refused (AskController q sheet c) = rw unsound
     refused (Write sheet h handle fits frame) = rw unsound
     refused (MainFunctionWrite sheet) = rw unsound
     refused (MainFunctionRead sheet) = rw unsound
@@ -66,6 +66,7 @@ module _ (L : Limits) (F : Format) where
     refused (MainFunctionBusOff sheet) = rw unsound
     refused (TxComplete h) = rw unsound
     refused (BusOffDetected c) = rw unsound
+    refused (ErrorsCounted sheet c tx rx) = rw unsound
     refused (FrameArrived sheet c frame) = rw unsound
 
     nothing-left : (call : Call F) (sheet : List ℕ) → whole-of (performed L F call s ram) sheet ≡ whole s ram sheet

@@ -1,20 +1,19 @@
 -- What the polls keep: any property of the mailboxes and the notifications that each visit, or each turn, keeps.
-use Prim.Native.Nat.{ℕ, zero, suc, _≤_, _<_}
+use Prim.Native.Nat.{ℕ, zero, suc}
 use mathlib.Core.Path.{_≡_, sym, subst}
-use mathlib.Core.Bool.{true, cond}
+use mathlib.Core.Bool.{true}
 use mathlib.Core.List.{List, [], _∷_, _++_}
-use native.Mathlib.Omega.{arith}
 use native.Mathlib.Nat.{le-refl}
 use native.Mathlib.Decide.{ℕ-discrete}
-use lib.ListN.{length, set}
-use lib.Seq.{getD-set-same, getD-set-other}
+use lib.ListN.{set}
+use lib.Seq.{getD-set-other}
 use Rattle.rules.specs.Repeat.{rising}
 use Rattle.rules.specs.Notification.{Notification}
-use Rattle.rules.specs.Core.{Controller, Mailbox, Core, idle-controller, empty-mailbox, controller-at, mailbox-at}
+use Rattle.rules.specs.Core.{Controller, Mailbox, Core, empty-mailbox, controller-at, mailbox-at}
 use Rattle.rules.specs.Polls.{Boxes, Sweep, Visit, Turn, notify, visit-one, visit-all, closing, turn-one, turn-all, boxes-of, sweep-of}
-use Rattle.laws.proofs.Tests.{cond-both, cond-map}
+use Rattle.laws.proofs.Tests.{cond-both}
 use Rattle.laws.proofs.Repeat.{rising-keeps}
-use Rattle.laws.proofs.Sweeps.{set-default, sweep-above, sweep-below}
+use Rattle.laws.proofs.Sweeps.{set-default, turns-above}
 
 -- an object that is due is told of and free again
 abbrev pub freed : Visit → ℕ → Boxes → Boxes
@@ -27,29 +26,6 @@ visits-keep P v step n b p =
     rising-keeps P (visit-one v) n (λ i l x q. cond-both P (v .due i (mailbox-at (x .mailboxes) i)) (freed v i x) x (step i x q) (λ t. q)) b p
 
 module _ (size : ℕ) (t : Turn) (core : Core) (ram : List ℕ) where
-  -- one controller's turn, seen at the controllers
-  turn-step : (c : ℕ) (w : Sweep)
-      → turn-one size t core ram c w .controllers ≡ cond (t .due (controller-at (w .controllers) c)) (set (w .controllers) c (t .entered (controller-at (w .controllers) c))) (w .controllers)
-  turn-step c w = cond-map (λ (x : Sweep). x .controllers) (t .due (controller-at (w .controllers) c)) _ w
-
-  -- those above are as they were at first
-  turns-above : (n c : ℕ) → n ≤ c → controller-at (rising n (turn-one size t core ram) (sweep-of core) .controllers) c ≡ controller-at (core .controllers) c
-  turns-above n c l =
-      sweep-above Sweep Controller (λ (w : Sweep). w .controllers) idle-controller (λ i. t .due) (t .entered) (turn-one size t core ram) turn-step (sweep-of core) n c l
-
-  pub turns-beyond : (c : ℕ) → core .controller-count ≤ c → controller-at (turn-all size t core ram .controllers) c ≡ controller-at (core .controllers) c
-  unfolding turn-all
-  turns-beyond c l = turns-above (core .controller-count) c l
-
-  -- a controller in use whose turn is due enters its next mode
-  pub turns-below : core .controller-count ≤ length (core .controllers) → (c : ℕ) → c < core .controller-count
-      → controller-at (turn-all size t core ram .controllers) c ≡ cond (t .due (controller-at (core .controllers) c)) (t .entered (controller-at (core .controllers) c)) (controller-at (core .controllers) c)
-  unfolding turn-all
-  turns-below within c l =
-      let n = core .controller-count in
-      sweep-below Sweep Controller (λ (w : Sweep). w .controllers) idle-controller (λ i. t .due) (t .entered) (turn-one size t core ram) turn-step (sweep-of core) n
-      (λ i ks inside long. getD-set-same ks i (t .entered (controller-at ks i)) idle-controller (rw long (omega arith))) n c (le-refl n) l
-
   pub turns-keep : (P : Boxes → Type 0) → ((c : ℕ) (k : Controller) (b : Boxes) → P b → P (notify (t .note c k) b))
       → ((c : ℕ) → t .due (controller-at (core .controllers) c) ≡ true → t .leaves (controller-at (core .controllers) c) ≡ true
       → (b : Boxes) → P b → P (visit-all (closing size (core .owners) ram c) (core .object-count) b))
@@ -62,7 +38,7 @@ module _ (size : ℕ) (t : Turn) (core : Core) (ram : List ℕ) where
       go (suc n) =
           let w = rising n (turn-one size t core ram) (sweep-of core) in
           let k = controller-at (w .controllers) n in
-          let met = turns-above n n (le-refl n) in
+          let met = turns-above size t core ram n n (le-refl n) in
           cond-both (λ (x : Sweep). P (x .boxes)) (t .due k) _ w
           (λ due. told n k _
           (cond-both P (t .leaves k) (visit-all (closing size (core .owners) ram n) (core .object-count) (w .boxes)) (w .boxes)

@@ -7,7 +7,7 @@ use lib.Dec.{eqb}
 use Rattle.rules.specs.Limits.{Limits}
 use Rattle.rules.specs.Format.{Format}
 use Rattle.rules.specs.Bytes.{same-bytes}
-use Rattle.rules.specs.Notification.{Notification, tx-confirmation, rx-indication, mode-indication, bus-off-indication, development-error, data-lost, tx-cancellation}
+use Rattle.rules.specs.Notification.{Notification, tx-confirmation, rx-indication, mode-indication, bus-off-indication, development-error, data-lost, tx-cancellation, error-passive-indication}
 use Rattle.rules.specs.Configuration.{Configuration, settings-at, configuration-of, no-configuration}
 use Rattle.rules.specs.State.{State}
 use Rattle.rules.specs.Outcome.{Outcome}
@@ -56,6 +56,7 @@ after-notification h a (mode-indication c m) = a
 after-notification h a (bus-off-indication c) = a
 after-notification h a (development-error service error) = a
 after-notification h a (data-lost i) = a
+after-notification h a (error-passive-indication c tx rx) = a
 
 unfoldable pub after-notifications : ℕ → Account → List Notification → Account
 after-notifications h a [] = a

@@ -5,7 +5,7 @@ use lib.ListN.{length}
 use Rattle.rules.specs.Limits.{Limits}
 use Rattle.rules.specs.Format.{Format}
 use Rattle.rules.specs.State.{State}
-use Rattle.rules.specs.Outcome.{Outcome}
+use Rattle.rules.specs.Outcome.{Outcome, Question}
 use Rattle.rules.specs.Calls as calls
 
 -- "Each call brings its own inputs and, where it takes one, its own sheet, of any length and content". The sheet comes first.
@@ -15,8 +15,8 @@ pub data Call (F : Format) : Type 0 where
   DeInit : List ℕ → Call F
   -- controller, mode asked for
   SetControllerMode : List ℕ → ℕ → ℕ → Call F
-  -- controller
-  GetControllerMode : List ℕ → ℕ → Call F
+  -- GetControllerMode and 02's three questions, Q-5: what is asked, controller
+  AskController : Question → List ℕ → ℕ → Call F
   -- object, handle of 16 bits, frame
   Write : List ℕ → ℕ → (handle : ℕ) → handle < 2 ^ 16 → F .Frame → Call F
   MainFunctionWrite : List ℕ → Call F
@@ -27,6 +27,8 @@ pub data Call (F : Format) : Type 0 where
   TxComplete : ℕ → Call F
   -- controller
   BusOffDetected : ℕ → Call F
+  -- 02, Q-5: controller, transmit count, receive count
+  ErrorsCounted : List ℕ → ℕ → ℕ → ℕ → Call F
   -- controller, frame
   FrameArrived : List ℕ → ℕ → F .Frame → Call F
 
@@ -36,7 +38,7 @@ module _ (L : Limits) (F : Format) where
   performed (Init sheet bytes) s ram = calls.init L F s (length sheet) ram bytes
   performed (DeInit sheet) s ram = calls.deinit L F s (length sheet) ram
   performed (SetControllerMode sheet c asked) s ram = calls.set-controller-mode L F s (length sheet) ram c asked
-  performed (GetControllerMode sheet c) s ram = calls.get-controller-mode L F s (length sheet) ram c
+  performed (AskController q sheet c) s ram = calls.ask-controller L F q s (length sheet) ram c
   performed (Write sheet h handle fits frame) s ram = calls.write L F s (length sheet) ram h handle frame
   performed (MainFunctionWrite sheet) s ram = calls.main-function-write L F s (length sheet) ram
   performed (MainFunctionRead sheet) s ram = calls.main-function-read L F s (length sheet) ram
@@ -44,4 +46,5 @@ module _ (L : Limits) (F : Format) where
   performed (MainFunctionBusOff sheet) s ram = calls.main-function-bus-off L F s (length sheet) ram
   performed (TxComplete h) s ram = calls.tx-complete L F s ram h
   performed (BusOffDetected c) s ram = calls.bus-off-detected L F s ram c
+  performed (ErrorsCounted sheet c tx rx) s ram = calls.errors-counted L F s (length sheet) ram c tx rx
   performed (FrameArrived sheet c frame) s ram = calls.frame-arrived L F s (length sheet) ram c frame

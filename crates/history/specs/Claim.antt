@@ -11,26 +11,28 @@ use Rattle.rules.specs.Mode.{permitted}
 use Rattle.rules.specs.Configuration.{no-configuration}
 use Rattle.rules.specs.Core.{controller-at}
 use Rattle.rules.specs.State.{State, initial-state}
-use Rattle.rules.specs.Outcome.{Outcome, mode}
+use Rattle.rules.specs.Outcome.{Outcome, Question, of-mode, told}
+use Rattle.rules.specs.Services.{question-service}
 use Rattle.history.specs.Call.{Call}
 use Rattle.history.specs.Trace.{Step, trace, left-by}
-use Rattle.history.specs.Effect.{AtController, mode-asked, mode-told, bus-off, Poll, of-writes, of-modes, of-buses-off, Effect, nothing, configuring, at-object, at-controller, polling, effect-of}
+use Rattle.history.specs.Effect.{AtController, mode-asked, question-asked, bus-off, counted, Poll, of-writes, of-modes, of-buses-off, Effect, nothing, configuring, at-object, at-controller, polling, effect-of}
 use Rattle.history.specs.Account.{closed, account, intact}
 use Rattle.history.specs.Reference.{Reference, at-first, takes-wish, entry, reference-after, reference-by}
 
 module _ (L : Limits) (F : Format) where
-  -- an accepted question for controller c's mode
-  abbrev pub is-question : AtController → Bool
-  is-question mode-told = true
-  is-question (mode-asked m) = false
-  is-question bus-off = false
+  -- an accepted question of controller c, known by the service that asks it
+  abbrev pub is-question : Question → AtController → Bool
+  is-question q (question-asked p) = eqb (question-service p) (question-service q)
+  is-question q (mode-asked m) = false
+  is-question q bus-off = false
+  is-question q (counted tx rx) = false
 
-  abbrev pub asks-mode : ℕ → Effect F → Bool
-  asks-mode c (at-controller k x) = eqb k c && is-question x
-  asks-mode c nothing = false
-  asks-mode c (configuring x) = false
-  asks-mode c (at-object h x) = false
-  asks-mode c (polling p) = false
+  abbrev pub asks : Question → ℕ → Effect F → Bool
+  asks q c (at-controller k x) = eqb k c && is-question q x
+  asks q c nothing = false
+  asks q c (configuring x) = false
+  asks q c (at-object h x) = false
+  asks q c (polling p) = false
 
   -- an accepted mode poll
   abbrev pub polls-modes : Poll → Bool
@@ -50,7 +52,7 @@ module _ (L : Limits) (F : Format) where
     -- "The modes in the driver state .. equal the book's."
     pub in-state : controller-at (o .state .core .controllers) c .mode ≡ next .mode
     -- ".. and GetControllerMode's answer where it returns 0"
-    pub answered : asks-mode c e ≡ true → o .answer ≡ mode (next .mode)
+    pub answered : asks of-mode c e ≡ true → o .answer ≡ told of-mode (next .mode)
     -- "Each wish that a mode poll takes is a request permitted from the mode that it replaces."
     pub wish-permitted : (is-mode-poll e && takes-wish r) ≡ true → permitted (r .mode) (r .wish) ≡ true
 

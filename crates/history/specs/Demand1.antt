@@ -11,8 +11,8 @@ use Rattle.rules.specs.Format.{Format}
 use Rattle.rules.specs.Notification.{Notification, development-error}
 use Rattle.rules.specs.State.{State, valid}
 use Rattle.rules.specs.Outcome.{Outcome}
-use Rattle.rules.specs.Services.{INIT, DEINIT, SET-CONTROLLER-MODE, GET-CONTROLLER-MODE, WRITE}
-use Rattle.history.specs.Call.{Call, Init, DeInit, SetControllerMode, GetControllerMode, Write, MainFunctionWrite, MainFunctionRead, MainFunctionMode, MainFunctionBusOff, TxComplete, BusOffDetected, FrameArrived, performed}
+use Rattle.rules.specs.Services.{INIT, DEINIT, SET-CONTROLLER-MODE, WRITE, question-service}
+use Rattle.history.specs.Call.{Call, Init, DeInit, SetControllerMode, AskController, Write, MainFunctionWrite, MainFunctionRead, MainFunctionMode, MainFunctionBusOff, TxComplete, BusOffDetected, ErrorsCounted, FrameArrived, performed}
 use Rattle.history.specs.Trace.{is-accepted}
 
 -- "a service writes one record of kind 5, an event none", "Reasons from 32 up write nothing."
@@ -26,7 +26,7 @@ module _ (F : Format) where
   service-number (Init sheet bytes) = some INIT
   service-number (DeInit sheet) = some DEINIT
   service-number (SetControllerMode sheet c asked) = some SET-CONTROLLER-MODE
-  service-number (GetControllerMode sheet c) = some GET-CONTROLLER-MODE
+  service-number (AskController q sheet c) = some (question-service q)
   service-number (Write sheet h handle fits frame) = some WRITE
   service-number (MainFunctionWrite sheet) = none
   service-number (MainFunctionRead sheet) = none
@@ -34,6 +34,7 @@ module _ (F : Format) where
   service-number (MainFunctionBusOff sheet) = none
   service-number (TxComplete h) = none
   service-number (BusOffDetected c) = none
+  service-number (ErrorsCounted sheet c tx rx) = none
   service-number (FrameArrived sheet c frame) = none
 
   -- what a refused call leaves of this state and this memory

@@ -1,5 +1,5 @@
 -- Demand 3, to be read in this order; which records close an object; frames that had left; demand 2's poll rule; demand 1; what operators
--- ask; and calls on one sheet.
+-- ask of the polls, and of error states; and calls on one sheet.
 pub mod Call
 pub mod Trace
 pub mod Effect
@@ -12,4 +12,5 @@ pub mod Cancellation
 pub mod PollRule
 pub mod Demand1
 pub mod Operators
+pub mod ErrorStates
 pub mod Replay

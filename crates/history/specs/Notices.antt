@@ -3,7 +3,7 @@ use Prim.Native.Nat.{ℕ}
 use mathlib.Core.Bool.{Bool, false, _||_}
 use mathlib.Core.List.{List, [], _∷_}
 use lib.Dec.{eqb}
-use Rattle.rules.specs.Notification.{Notification, tx-confirmation, rx-indication, mode-indication, bus-off-indication, development-error, data-lost, tx-cancellation}
+use Rattle.rules.specs.Notification.{Notification, tx-confirmation, rx-indication, mode-indication, bus-off-indication, development-error, data-lost, tx-cancellation, error-passive-indication}
 
 -- one of the records is such
 unfoldable pub one-of : (Notification → Bool) → List Notification → Bool
@@ -19,6 +19,7 @@ closes h (mode-indication c m) = false
 closes h (bus-off-indication c) = false
 closes h (development-error service error) = false
 closes h (data-lost i) = false
+closes h (error-passive-indication c tx rx) = false
 
 -- 01: "7 cancelled"
 abbrev pub cancels : ℕ → Notification → Bool
@@ -29,6 +30,7 @@ cancels h (mode-indication c m) = false
 cancels h (bus-off-indication c) = false
 cancels h (development-error service error) = false
 cancels h (data-lost i) = false
+cancels h (error-passive-indication c tx rx) = false
 
 abbrev pub closed-in : ℕ → List Notification → Bool
 closed-in h ns = one-of (closes h) ns

@@ -9,7 +9,7 @@ use Rattle.rules.specs.Mode.{UNINIT, STARTED, STOPPED, NO-REQUEST}
 use Rattle.rules.specs.Configuration.{controllers-byte}
 use Rattle.rules.specs.Core.{Controller}
 use Rattle.history.specs.Trace.{Step}
-use Rattle.history.specs.Effect.{Configuring, configured, unconfigured, AtController, mode-asked, mode-told, bus-off, Poll, of-writes, of-modes, of-buses-off, Effect, nothing, configuring, at-object, at-controller, polling, effect-of}
+use Rattle.history.specs.Effect.{Configuring, configured, unconfigured, AtController, mode-asked, question-asked, bus-off, counted, sets-mark, Poll, of-writes, of-modes, of-buses-off, Effect, nothing, configuring, at-object, at-controller, polling, effect-of}
 
 -- "It has a mode, a wish and a mark per controller"
 pub record Reference : Type 0 where
@@ -33,17 +33,22 @@ takes-wish r = not (r .mark) && not (eqb (r .wish) NO-REQUEST)
 abbrev pub stops : Reference → Bool
 stops r = takes-wish r && (eqb (r .mode) STARTED && not (eqb (r .wish) STARTED))
 
+abbrev pub marked-if : Bool → Reference → Reference
+marked-if marks r = cond marks (record { mode = r .mode; wish = r .wish; mark = true }) r
+
 module _ (L : Limits) (F : Format) (c : ℕ) where
   -- "Init: mode 2 for each controller below the count in its bytes. DeInit: all as at first."
   abbrev pub after-configuring : Configuring → Reference → Reference
   after-configuring (configured bytes) r = cond (ltb c (controllers-byte bytes)) (record { mode = STOPPED; wish = r .wish; mark = r .mark }) r
   after-configuring unconfigured r = at-first
 
-  -- "SetControllerMode: the wish becomes the mode asked for. Bus-off event: the mark is set."
+  -- "SetControllerMode: the wish becomes the mode asked for. Bus-off event: the mark is set."; 02, Q-5: the count event sets "the mark in
+  -- demand 3's mode book" too
   abbrev pub after-own : AtController → Reference → Reference
   after-own (mode-asked mode) r = record { mode = r .mode; wish = mode; mark = r .mark }
-  after-own mode-told r = r
-  after-own bus-off r = record { mode = r .mode; wish = r .wish; mark = true }
+  after-own (question-asked q) r = r
+  after-own bus-off r = marked-if (sets-mark bus-off) r
+  after-own (counted tx rx) r = marked-if (sets-mark (counted tx rx)) r
 
   -- "Mode poll: each unmarked controller with a wish takes it as its mode, and the wish ends. Bus-off poll: each marked controller gets
   -- mode 2, no wish, no mark."

@@ -1,13 +1,13 @@
 // One case: a state, a call, and the lengths of the sheet and the memory that it is lent.
 //
 //     initialised 1 · controller_count 4 · object_count 4
-//     4 controllers of: mode 1 · requested_mode 1 · bus_off 1
+//     4 controllers of: mode 1 · requested_mode 1 · bus_off 1 · recovering 1 · transmit count 4 · receive count 4
 //     32 objects of: controller 1 · receiving 1 · pool 1 · payload 1 · padding 1 · code 4 · mask 4
 //     32 mailboxes of: tx_pending 1 · tx_done 1 · rx_full 1
 //     kind of the call 1 · a 4 · b 4 · c 4 · words of the sheet 4 · bytes of the memory 4
 //     the rest: the call's bytes (a configuration, or the data of a frame)
 //
-// a is the controller or the object, b the mode asked for or the handle, c the identifier.
+// a is the controller or the object, b the mode asked for, the handle or the transmit count, c the identifier or the receive count.
 use crate::number::further;
 use crate::number::number;
 use crate::number::small;
@@ -27,7 +27,7 @@ pub struct Case {
     pub memory: usize,
 }
 
-// The function of a kind: the services, the polls, the events, and who sends next.
+// The function of a kind: the services, the polls, the events, who sends next, the error counts and what is asked of them.
 fn function_of(kind: u8) -> Function {
     match kind {
         0 => Function::Init,
@@ -42,6 +42,10 @@ fn function_of(kind: u8) -> Function {
         9 => Function::Sent,
         10 => Function::BusOff,
         11 => Function::Arrived,
+        13 => Function::ErrorCounts,
+        14 => Function::ErrorState,
+        15 => Function::RxErrors,
+        16 => Function::TxErrors,
         _ => Function::Next,
     }
 }
@@ -56,6 +60,7 @@ fn read_request(bytes: &[u8], at: usize) -> Request {
         controller: a,
         object: a,
         number: b,
+        receive: c,
         identifier: c,
     }
 }

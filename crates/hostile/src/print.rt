@@ -9,6 +9,9 @@ fn answer(out: &mut [u8], at: usize, answer: Answer) -> usize {
     match answer {
         Answer::Nothing => put(out, at, b" -"),
         Answer::Mode(m) => numbered(out, at, b" ", m as u64),
+        Answer::ErrorState(n) => numbered(out, at, b" ", n as u64),
+        Answer::RxErrors(n) => numbered(out, at, b" ", n as u64),
+        Answer::TxErrors(n) => numbered(out, at, b" ", n as u64),
         Answer::TakenBy(h) => numbered(out, at, b" ", h as u64),
         Answer::Stored(h) => numbered(out, at, b" stored:", h as u64),
         Answer::Unwanted => put(out, at, b" unwanted"),

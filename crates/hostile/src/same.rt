@@ -20,6 +20,17 @@ fn controllers(x: State, y: State) -> bool {
     same
 }
 
+fn errors(x: State, y: State) -> bool {
+    let mut same = true;
+    for c in 0..CONTROLLERS {
+        same = same
+            & (x.recoverings[c] == y.recoverings[c])
+            & (x.tx_errors[c] == y.tx_errors[c])
+            & (x.rx_errors[c] == y.rx_errors[c]);
+    }
+    same
+}
+
 fn owners(x: State, y: State) -> bool {
     let mut same = true;
     for h in 0..OBJECTS {
@@ -57,10 +68,11 @@ fn mailboxes(x: State, y: State) -> bool {
 // The places of two states.
 fn places(x: State, y: State) -> bool {
     let same_controllers = controllers(x, y);
+    let same_errors = errors(x, y);
     let same_owners = owners(x, y);
     let same_settings = settings(x, y);
     let same_mailboxes = mailboxes(x, y);
-    same_controllers & same_owners & same_settings & same_mailboxes
+    same_controllers & same_errors & same_owners & same_settings & same_mailboxes
 }
 
 pub fn same(x: State, y: State) -> bool {

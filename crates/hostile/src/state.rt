@@ -10,7 +10,7 @@ use can::State;
 // Bytes of the parts of a state: whether it is initialised and the two counts, then the places.
 const HEAD: usize = 9;
 
-const CONTROLLER: usize = 3;
+const CONTROLLER: usize = 12;
 
 const OBJECT: usize = 13;
 
@@ -68,6 +68,21 @@ fn with_controllers(bytes: &[u8], state: State) -> State {
     next.modes = modes;
     next.requests = requests;
     next.marks = marks;
+    next
+}
+
+// The second mark and the two error counts of every controller.
+fn with_errors(bytes: &[u8], state: State) -> State {
+    let mut recoverings = state.recoverings;
+    let mut tx_errors = state.tx_errors;
+    let mut rx_errors = state.rx_errors;
+    flags_of(bytes, HEAD + 3, CONTROLLER, &mut recoverings);
+    numbers_of(bytes, HEAD + 4, CONTROLLER, &mut tx_errors);
+    numbers_of(bytes, HEAD + 8, CONTROLLER, &mut rx_errors);
+    let mut next = state;
+    next.recoverings = recoverings;
+    next.tx_errors = tx_errors;
+    next.rx_errors = rx_errors;
     next
 }
 
@@ -131,6 +146,7 @@ pub fn state(bytes: &[u8]) -> State {
     state.controller_count = number(bytes, 1) as usize;
     state.object_count = number(bytes, 5) as usize;
     state = with_controllers(bytes, state);
+    state = with_errors(bytes, state);
     state = with_owners(bytes, state);
     state = with_payloads(bytes, state);
     state = with_filters(bytes, state);

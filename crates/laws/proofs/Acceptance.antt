@@ -1,17 +1,19 @@
--- What an accepted call passed: its gate, and for a write its own checks.
-use Prim.Native.Nat.{ℕ, _≤_}
+-- What an accepted call passed: its gate, and for a write and for an error count its own checks.
+use Prim.Native.Nat.{ℕ, _≤_, _<_}
 use mathlib.Core.Path.{_≡_, refl}
 use mathlib.Core.Bool.{true, false, not}
 use mathlib.Core.List.{List, [], _∷_}
 use lib.ListN.{length}
 use lib.Dec.{eqb}
-use borrow.Author.Tests.{eqb-true, ltb-false}
+use borrow.Author.Tests.{eqb-true, ltb-true, ltb-false}
 use Rattle.rules.specs.Limits.{Limits, sheet-size, ram-size}
 use Rattle.rules.specs.Format.{Format}
-use Rattle.rules.specs.Reason.{first-reason, _then_, reasons-named}
-use Rattle.rules.specs.Core.{Core, mailbox-at, is-started, controller-of, names-pool, free-member}
+use Rattle.rules.specs.Reason.{_if_, first-reason, _then_, reasons-named, ERROR-COUNT-TOO-LARGE}
+use Rattle.rules.specs.Errors.{within-limit}
+use Rattle.rules.specs.Core.{Core, controller-at, mailbox-at, is-started, in-use, controller-of, names-pool, free-member}
 use Rattle.rules.specs.State.{State, valid}
 use Rattle.rules.specs.Outcome.{state-check, sheet-check, ram-check, full-gate, ram-gate}
+use Rattle.rules.specs.Events.{on-bus-checks, errors-counted-reason}
 use Rattle.rules.specs.Services.{sending-checks, free-checks, write-reason}
 use Rattle.laws.proofs.Tests.{not-false}
 use Rattle.laws.proofs.Reasons.{then-first, then-second, check-passed}
@@ -59,4 +61,24 @@ write-passed core h frame r =
       frame-fits = then-first frame (first-reason back) r₂;
       started = not-false (is-started (controller-of core h)) (check-passed 0 back refl r₃);
       free = check-passed 1 back refl r₃;
+    }
+
+-- what an error count passes beyond its gate
+pub record CountPassed (core : Core) (c tx rx : ℕ) : Type 0 where
+  pub used : c < core .controller-count
+  pub started : is-started (controller-at (core .controllers) c) ≡ true
+  pub unmarked : controller-at (core .controllers) c .bus-off ≡ false
+  pub limited : within-limit tx rx ≡ true
+
+pub counted-passed : (core : Core) (c tx rx : ℕ) → errors-counted-reason core c tx rx ≡ 0 → CountPassed core c tx rx
+unfolding reasons-named
+counted-passed core c tx rx r =
+    let front = on-bus-checks core c in
+    let back = ERROR-COUNT-TOO-LARGE if not (within-limit tx rx) ∷ [] in
+    let r₁ = then-first (first-reason front) (first-reason back) r in
+    record {
+      used = ltb-true c (core .controller-count) (not-false (in-use core c) (check-passed 1 front refl r₁));
+      started = not-false (is-started (controller-at (core .controllers) c)) (check-passed 2 front refl r₁);
+      unmarked = check-passed 3 front refl r₁;
+      limited = not-false (within-limit tx rx) (check-passed 0 back refl (then-second (first-reason front) (first-reason back) r));
     }

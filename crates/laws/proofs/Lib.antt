@@ -11,6 +11,7 @@ pub mod Objects
 pub mod Sheets
 pub mod Sweeps
 pub mod Changes
+pub mod Errors
 pub mod Closing
 pub mod Bounds
 pub mod Acceptance

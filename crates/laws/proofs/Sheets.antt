@@ -5,7 +5,7 @@ use mathlib.Core.List.{List, [], _∷_, _++_, append-assoc}
 use native.Mathlib.Omega.{arith}
 use lib.ListN.{length, length-append}
 use Rattle.rules.specs.Bytes.{splice}
-use Rattle.rules.specs.Notification.{Notification, tx-confirmation, rx-indication, mode-indication, bus-off-indication, development-error, data-lost, tx-cancellation, words, all-words, sheet-after}
+use Rattle.rules.specs.Notification.{Notification, tx-confirmation, rx-indication, mode-indication, bus-off-indication, development-error, data-lost, tx-cancellation, error-passive-indication, words, all-words, sheet-after}
 use Rattle.laws.proofs.Splices.{splice-nil, length-splice, splice-splice}
 
 pub length-words : (n : Notification) → length (words n) ≡ 4
@@ -17,6 +17,7 @@ length-words (bus-off-indication c) = refl
 length-words (development-error service error) = refl
 length-words (data-lost h) = refl
 length-words (tx-cancellation h handle) = refl
+length-words (error-passive-indication c tx rx) = refl
 
 pub length-all-words : (ns : List Notification) → length (all-words ns) ≡ 4 * length ns
 unfolding all-words
@@ -32,6 +33,7 @@ all-words-one (bus-off-indication c) = refl
 all-words-one (development-error service error) = refl
 all-words-one (data-lost h) = refl
 all-words-one (tx-cancellation h handle) = refl
+all-words-one (error-passive-indication c tx rx) = refl
 
 pub all-words-append : (ns ms : List Notification) → all-words (ns ++ ms) ≡ all-words ns ++ all-words ms
 unfolding all-words

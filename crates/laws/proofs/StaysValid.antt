@@ -14,27 +14,29 @@ use Rattle.rules.specs.Format.{Format, Lawful}
 use Rattle.rules.specs.Repeat.{rising, all-below}
 use Rattle.rules.specs.Mode.{STARTED, STOPPED, SLEEP, permitted}
 use Rattle.rules.specs.Reason.{first-reason, _then_, reasons-named}
-use Rattle.rules.specs.Core.{Controller, Owner, Mailbox, Core, idle-controller, unused-owner, empty-mailbox, controller-at, owner-at, mailbox-at, is-started, in-use, is-sending, controller-of, free-member, with-controllers, with-mailboxes, controller-valid, mailbox-valid, owner-place-valid, controller-place-valid, mailbox-place-valid, counts-valid, owners-valid, core-valid, initial-core}
+use Rattle.rules.specs.Errors.{Errors, no-errors, above-bus-off}
+use Rattle.rules.specs.Core.{Controller, Owner, Mailbox, Core, idle-controller, unused-owner, empty-mailbox, controller-at, errors-at, owner-at, mailbox-at, is-started, in-use, is-sending, controller-of, free-member, with-controllers, with-mailboxes, with-errors, controller-valid, errors-valid, mailbox-valid, owner-place-valid, controller-place-valid, mailbox-place-valid, counts-valid, owners-valid, core-valid, initial-core}
 use Rattle.rules.specs.Configuration.{configuration-of, accepted-bytes, configuration-valid, header-valid, size-valid, kind-valid, objects-byte, controllers-byte, settings-place-valid, all-settings-valid}
 use Rattle.rules.specs.State.{State, with-core, valid, initial-state}
-use Rattle.rules.specs.Outcome.{Outcome, judged, lifted, state-gate, sheet-gate, full-gate}
+use Rattle.rules.specs.Outcome.{Outcome, Question, judged, lifted, state-gate, sheet-gate, full-gate}
 use Rattle.rules.specs.Services as services
-use Rattle.rules.specs.Services.{set-controller-mode-checks, get-controller-mode-checks, configured-core, stopped-controller, with-request, mode-requested, write-reason, written-mailbox, taken}
-use Rattle.rules.specs.Polls.{Boxes, Sweep, Visit, Turn, visit-all, closing, boxes-of, sweep-of, after-sweep, turn-one, turn-all, mode-change, going-off, entering-request, entering-bus-off, takes-request, leaves-started, objects-polled, controllers-polled}
+use Rattle.rules.specs.Services.{set-controller-mode-checks, configured-core, stopped-controller, with-request, mode-requested, write-reason, written-mailbox, taken}
+use Rattle.rules.specs.Polls.{Boxes, Sweep, Visit, Turn, visit-all, closing, boxes-of, sweep-of, after-sweep, turn-one, turn-all, mode-change, going-off, entering-request, entering-bus-off, takes-request, leaves-started, errors-all, objects-polled, controllers-polled}
 use Rattle.rules.specs.Polls as polls
 use Rattle.rules.specs.Events as events
-use Rattle.rules.specs.Events.{tx-complete-checks, on-bus-checks, has-unsent, sent-mailbox, filled-mailbox, marked-bus-off, fits-frame, filled}
-use Rattle.rules.specs.Calls.{init, deinit, set-controller-mode, get-controller-mode, write, main-function-write, main-function-read, main-function-mode, main-function-bus-off, tx-complete, bus-off-detected, frame-arrived, init-checks, configured-state, frame-reason, best-object, received, not-stored}
+use Rattle.rules.specs.Events.{tx-complete-checks, on-bus-checks, has-unsent, sent-mailbox, filled-mailbox, marked-bus-off, errors-counted-reason, counted-controller, counted-errors, fits-frame, filled}
+use Rattle.rules.specs.Calls.{init, deinit, set-controller-mode, ask-controller, write, main-function-write, main-function-read, main-function-mode, main-function-bus-off, tx-complete, bus-off-detected, errors-counted, frame-arrived, init-checks, configured-state, frame-reason, best-object, received, not-stored}
 use Rattle.laws.proofs.Tests.{both, left, right, clash, decide, cond-both, not-true, not-false}
 use Rattle.laws.proofs.Repeat.{rising-keeps, facts-all, length-list-below, getD-list-below, last-or-below}
 use Rattle.laws.proofs.Choice.{choice-tells}
 use Rattle.laws.proofs.Reasons.{then-first, then-second, check-passed, judged-either}
 use Rattle.laws.proofs.Pools.{named, taken-member, member-sends, member-controller}
-use Rattle.laws.proofs.Validity.{Valid, pools-valid, core-facts, facts-core, CoreKept, state-core, core-stays}
-use Rattle.laws.proofs.Sweeps.{boxes-length}
+use Rattle.laws.proofs.Validity.{Valid, ErrorsValid, pools-valid, core-facts, error-facts, facts-core, CoreKept, state-core, core-stays}
+use Rattle.laws.proofs.Sweeps.{boxes-length, turns-below, errors-length, errors-above, errors-below}
 use Rattle.laws.proofs.Changes.{not-pending, pending-needs-started, empty-valid, controllers-within, objects-within, set-mailbox-valid, sweep-valid, set-controller-valid}
 use Rattle.laws.proofs.Closing.{closed-own, closed-others}
-use Rattle.laws.proofs.Acceptance.{WritePassed, write-passed}
+use Rattle.laws.proofs.Acceptance.{WritePassed, write-passed, counted-passed}
+use Rattle.laws.proofs.Errors.{own-errors, errors-suit, one-changed, one-counted, marked-valid, counted-valid, entering-errors-valid, bus-off-errors-valid, errors-aside}
 
 -- what a permitted request asks for is a mode of an initialised controller
 pub permitted-mode : (mode asked : ℕ) → permitted mode asked ≡ true → (leb STARTED asked && leb asked SLEEP) ≡ true
@@ -88,19 +90,27 @@ module _ (L : Limits) where
   same-core : (core : Core) → core-valid L core ≡ true → CoreKept L core core
   same-core core v = record { stays = v; count-kept = refl; owners-kept = refl }
 
-  changed : (core : Core) (ks : List Controller) (ms : List Mailbox) → Valid L (with-mailboxes (with-controllers core ks) ms) → CoreKept L core (with-mailboxes (with-controllers core ks) ms)
-  changed core ks ms v = record { stays = facts-core L _ v; count-kept = refl; owners-kept = refl }
+  changed : (core : Core) (ks : List Controller) (ms : List Mailbox) → Valid L (with-mailboxes (with-controllers core ks) ms) → ErrorsValid L (with-controllers core ks)
+      → CoreKept L core (with-mailboxes (with-controllers core ks) ms)
+  changed core ks ms v e = record { stays = facts-core L _ v (record { places = e .places; errors = e .errors }); count-kept = refl; owners-kept = refl }
 
   module _ (gate : ℕ) (core : Core) (ram : List ℕ) (v : core-valid L core ≡ true) where
     facts : Valid L core
     facts = core-facts L core v
 
+    errors : ErrorsValid L core
+    errors = error-facts L core v
+
+    -- the errors of a controller in use
+    errors-own : (c : ℕ) → c < core .controller-count → errors-valid (controller-at (core .controllers) c) (errors-at (core .errors) c) ≡ true
+    errors-own = own-errors L core errors (controllers-within L core facts)
+
     abbrev Kept : Outcome Core → Type 0
     Kept o = CoreKept L core (o .state)
 
-    pub get-controller-mode-kept : (c : ℕ) → Kept (services.get-controller-mode gate core ram c)
-    unfolding services.get-controller-mode
-    get-controller-mode-kept c = judged-either Kept _ _ _ (same-core core v) (λ r. same-core core v)
+    pub ask-controller-kept : (q : Question) (c : ℕ) → Kept (services.ask-controller gate q core ram c)
+    unfolding services.ask-controller
+    ask-controller-kept q c = judged-either Kept _ _ _ (same-core core v) (λ r. same-core core v)
 
     pub set-controller-mode-kept : (c asked : ℕ) → Kept (services.set-controller-mode gate core ram c asked)
     unfolding services.set-controller-mode reasons-named
@@ -121,6 +131,7 @@ module _ (L : Limits) where
             (same-mode-valid core facts c (with-request asked k) l
             (both (both (left bounds request (left (bounds && request) mark kv)) (rw move (or-true (eqb asked 0)))) (right (bounds && request) mark kv))
             refl)
+            (one-changed L core errors facts c l (with-request asked k) (errors-own c l))
 
     -- a write that is taken
     pub taken-kept : (h frame : ℕ) → write-reason core h frame ≡ 0 → CoreKept L core (taken core (free-member core h))
@@ -131,7 +142,7 @@ module _ (L : Limits) where
         let p = taken-member core h n in
         let sends : owner-at (core .owners) m .receiving ≡ false = member-sends (core .owners) (owner-at (core .owners) h .pool) m (p .pooled) in
         let started : is-started (controller-of core m) ≡ true = rw (member-controller (L .objects) core h m (pools-valid L core facts) n p) (w .started) in
-        changed core (core .controllers) _ (set-mailbox-valid L core facts m written-mailbox (p .in-use) (both (both (both {a = not (owner-at (core .owners) m .receiving)} (rw sends) started) refl) refl))
+        changed core (core .controllers) _ (set-mailbox-valid L core facts m written-mailbox (p .in-use) (both (both (both {a = not (owner-at (core .owners) m .receiving)} (rw sends) started) refl) refl)) errors
 
     pub tx-complete-kept : (h : ℕ) → Kept (events.tx-complete gate core ram h)
     unfolding events.tx-complete reasons-named
@@ -148,7 +159,7 @@ module _ (L : Limits) where
             let l = ltb-true h (core .object-count) (left (ltb h (core .object-count)) (not (o .receiving)) sending) in
             changed core (core .controllers) _
             (set-mailbox-valid L core facts h sent-mailbox l
-            (both (both (pending-facts (o .receiving) (is-started (controller-of core h)) m (own-mailbox core facts h l) (left (m .tx-pending) (not (m .tx-done)) unsent)) refl) refl))
+            (both (both (pending-facts (o .receiving) (is-started (controller-of core h)) m (own-mailbox core facts h l) (left (m .tx-pending) (not (m .tx-done)) unsent)) refl) refl)) errors
 
     pub bus-off-detected-kept : (c : ℕ) → Kept (events.bus-off-detected gate core ram c)
     unfolding events.bus-off-detected reasons-named
@@ -164,6 +175,33 @@ module _ (L : Limits) where
             let rest = leb STARTED (k .mode) && leb (k .mode) SLEEP && (eqb (k .requested-mode) 0 || permitted (k .mode) (k .requested-mode)) in
             changed core _ (core .mailboxes)
             (same-mode-valid core facts c (marked-bus-off k) l (both (left rest (not (k .bus-off) || is-started k) (own-controller core facts c l)) started) refl)
+            (one-changed L core errors facts c l (marked-bus-off k) (marked-valid k (errors-at (core .errors) c) (errors-own c l)))
+
+    pub errors-counted-kept : (c tx rx : ℕ) → Kept (events.errors-counted gate core ram c tx rx)
+    unfolding events.errors-counted reasons-named
+    errors-counted-kept c tx rx = judged-either Kept (gate then errors-counted-reason core c tx rx) _ _ (same-core core v) next
+      where
+        next : (gate then errors-counted-reason core c tx rx) ≡ 0
+            → CoreKept L core
+            (with-errors (with-controllers core (set (core .controllers) c (counted-controller tx (controller-at (core .controllers) c))))
+            (set (core .errors) c (counted-errors tx rx (errors-at (core .errors) c))))
+        next r =
+            let k = controller-at (core .controllers) c in
+            let e = errors-at (core .errors) c in
+            let own = then-second gate (errors-counted-reason core c tx rx) r in
+            let p = counted-passed core c tx rx own in
+            let kv = own-controller core facts c (p .used) in
+            let rest = leb STARTED (k .mode) && leb (k .mode) SLEEP && (eqb (k .requested-mode) 0 || permitted (k .mode) (k .requested-mode)) in
+            let fits = counted-valid tx rx k e (errors-own c (p .used)) (p .started) (p .limited) in
+            let kept =
+            same-mode-valid core facts c (counted-controller tx k) (p .used)
+            (cond-both (λ (x : Controller). controller-valid x ≡ true) (above-bus-off tx) (marked-bus-off k) k (λ t. both (left rest (not (k .bus-off) || is-started k) kv) (p .started)) (λ t. kv))
+            (cond-both (λ (x : Controller). is-started x ≡ is-started k) (above-bus-off tx) (marked-bus-off k) k (λ t. refl) (λ t. refl)) in
+            record {
+              stays = facts-core L _ (errors-aside _ (set (core .errors) c (counted-errors tx rx e)) kept) (one-counted L core errors facts c (p .used) (counted-controller tx k) (counted-errors tx rx e) fits);
+              count-kept = refl;
+              owners-kept = refl;
+            }
 
     -- an arrival that is stored
     pub filled-kept : (c h : ℕ) (accepts : ℕ → Bool) (rank : ℕ → ℕ) → events.best-object core c accepts rank false ≡ some h → CoreKept L core (filled core h)
@@ -173,17 +211,18 @@ module _ (L : Limits) where
         let chosen = choice-tells _ _ (core .object-count) (some h) e in
         let fits = left (fits-frame c o (accepts h)) _ (chosen .fitting) in
         let receiving = left (o .receiving) (eqb (o .controller) c) (left (o .receiving && eqb (o .controller) c) (accepts h) fits) in
-        changed core (core .controllers) _ (set-mailbox-valid L core facts h filled-mailbox (chosen .below) receiving)
+        changed core (core .controllers) _ (set-mailbox-valid L core facts h filled-mailbox (chosen .below) receiving) errors
 
     -- a poll over the objects
     pub objects-polled-kept : (visit : Visit) → Kept (objects-polled gate visit core ram)
     objects-polled-kept visit =
-        judged-either Kept gate _ _ (same-core core v) (λ r. changed core (core .controllers) _ (sweep-valid L core facts visit (core .object-count)))
+        judged-either Kept gate _ _ (same-core core v) (λ r. changed core (core .controllers) _ (sweep-valid L core facts visit (core .object-count)) errors)
 
   -- a controller's turn in a sweep over the controllers: it enters a valid state, and if it ceases to be STARTED it leaves the bus
   pub record Sound (t : Turn) : Type 0 where
     pub enters : (k : Controller) → controller-valid k ≡ true → t .due k ≡ true → controller-valid (t .entered k) ≡ true
     pub stays-on : (k : Controller) → t .leaves k ≡ false → is-started k ≡ true → is-started (t .entered k) ≡ true
+    pub errors-enter : (k : Controller) (e : Errors) → errors-valid k e ≡ true → errors-valid (t .entered k) (t .errors-after k e) ≡ true
 
   module _ (size : ℕ) (t : Turn) (sound : Sound t) (core : Core) (ram : List ℕ) (c : ℕ) (w : Sweep) (v : Valid L (after-sweep core w)) (l : c < core .controller-count) where
     abbrev control : Controller
@@ -228,8 +267,36 @@ module _ (L : Limits) where
   unfolding turn-all
   controllers-polled-kept size t sound gate core ram v =
       judged-either (λ (o : Outcome Core). CoreKept L core (o .state)) gate _ _ (same-core core v)
-      (λ r. record { stays = facts-core L _ swept; count-kept = refl; owners-kept = refl })
+      (λ r. record { stays = facts-core L _ (errors-aside _ _ swept) errors-swept; count-kept = refl; owners-kept = refl })
     where
+      facts : Valid L core
+      facts = core-facts L core v
+
+      errors : ErrorsValid L core
+      errors = error-facts L core v
+
+      within : core .controller-count ≤ L .controllers
+      within = controllers-within L core facts
+
+      used : (c : ℕ) → c < core .controller-count
+          → errors-valid (controller-at (turn-all size t core ram .controllers) c) (errors-at (errors-all t (core .controller-count) (core .controllers) (core .errors)) c) ≡ true
+      used c l =
+          rw (turns-below size t core ram (rw (facts .controller-places) within) c l, errors-below t (core .controllers) (core .errors) (core .controller-count) (rw (errors .places) within) c l)
+          (go (t .due (controller-at (core .controllers) c)) (own-errors L core errors within c l))
+        where
+          go : (due : Bool) → errors-valid (controller-at (core .controllers) c) (errors-at (core .errors) c) ≡ true
+              → errors-valid (cond due (t .entered (controller-at (core .controllers) c)) (controller-at (core .controllers) c))
+              (cond due (t .errors-after (controller-at (core .controllers) c) (errors-at (core .errors) c)) (errors-at (core .errors) c)) ≡ true
+          go true own = sound .errors-enter _ _ own
+          go false own = own
+
+      errors-swept : ErrorsValid L
+          (with-errors (after-sweep core (rising (core .controller-count) (turn-one size t core ram) (sweep-of core)))
+          (errors-all t (core .controller-count) (core .controllers) (core .errors)))
+      errors-swept =
+          errors-suit L core errors _ refl (errors-length t (core .controllers) (core .errors) (core .controller-count) ∙ errors .places) used
+          (errors-above t (core .controllers) (core .errors) (core .controller-count))
+
       swept : Valid L (after-sweep core (rising (core .controller-count) (turn-one size t core ram) (sweep-of core)))
       swept =
           rising-keeps (λ (w : Sweep). Valid L (after-sweep core w)) (turn-one size t core ram) (core .controller-count)
@@ -243,10 +310,11 @@ module _ (L : Limits) where
             let unmarked = not-true (k .bus-off) (left (not (k .bus-off)) (not (eqb (k .requested-mode) 0)) due) in
             both (both (permitted-mode (k .mode) (k .requested-mode) (waiting-permitted k kv due)) refl) (rw unmarked);
         stays-on = λ k stays st. not-false (eqb (k .requested-mode) STARTED) (rw st at stays);
+        errors-enter = entering-errors-valid;
       }
 
   pub going-off-sound : Sound going-off
-  going-off-sound = record { enters = λ k kv due. refl; stays-on = λ k stays st. clash refl stays }
+  going-off-sound = record { enters = λ k kv due. refl; stays-on = λ k stays st. clash refl stays; errors-enter = bus-off-errors-valid }
 
   pub initial-core-valid : core-valid L (initial-core L) ≡ true
   unfolding all-below
@@ -261,6 +329,10 @@ module _ (L : Limits) where
         controllers = λ c l. rw (leb·suc-zero c, getD-replicate (L .controllers) c idle-controller idle-controller l);
         mailboxes = λ h l. rw (leb·suc-zero h, getD-replicate (L .objects) h empty-mailbox empty-mailbox l);
       })
+      (record {
+        places = length-replicate (L .controllers) no-errors;
+        errors = λ c l. rw (leb·suc-zero c, getD-replicate (L .controllers) c no-errors no-errors l);
+      })
 
   pub configured-core-valid : (controller-count object-count : ℕ) (owners : List Owner) → length owners ≡ L .objects → counts-valid L controller-count object-count ≡ true
       → owners-valid L controller-count object-count owners ≡ true → core-valid L (configured-core L controller-count object-count owners) ≡ true
@@ -274,6 +346,10 @@ module _ (L : Limits) where
         owners = valid;
         controllers = λ c l. control c l (decide (ltb c controller-count));
         mailboxes = λ h l. rw (getD-replicate (L .objects) h empty-mailbox empty-mailbox l) (empty-valid (ltb h object-count) false false);
+      })
+      (record {
+        places = length-replicate (L .controllers) no-errors;
+        errors = λ c l. rw (getD-replicate (L .controllers) c no-errors no-errors l) (cond-both (λ (b : Bool). b ≡ true) (ltb c controller-count) _ _ (λ t. refl) (λ t. refl));
       })
     where
       control : (c : ℕ) → c < L .controllers → (ltb c controller-count ≡ true) ⊎ (ltb c controller-count ≡ false) → controller-place-valid (configured-core L controller-count object-count owners) c ≡ true
@@ -326,9 +402,9 @@ module _ (L : Limits) (F : Format) where
     unfolding set-controller-mode
     set-controller-mode-stays-valid c asked = core-stays L F s _ (set-controller-mode-kept L (sheet-gate L F s sheet) (s .core) ram own c asked) v
 
-    pub get-controller-mode-stays-valid : (c : ℕ) → Stays (get-controller-mode L F s sheet ram c)
-    unfolding get-controller-mode
-    get-controller-mode-stays-valid c = core-stays L F s _ (get-controller-mode-kept L (sheet-gate L F s sheet) (s .core) ram own c) v
+    pub ask-controller-stays-valid : (q : Question) (c : ℕ) → Stays (ask-controller L F q s sheet ram c)
+    unfolding ask-controller
+    ask-controller-stays-valid q c = core-stays L F s _ (ask-controller-kept L (sheet-gate L F s sheet) (s .core) ram own q c) v
 
     pub write-stays-valid : (h handle : ℕ) (frame : F .Frame) → Stays (write L F s sheet ram h handle frame)
     unfolding write
@@ -360,6 +436,10 @@ module _ (L : Limits) (F : Format) where
     pub bus-off-detected-stays-valid : (c : ℕ) → Stays (bus-off-detected L F s ram c)
     unfolding bus-off-detected
     bus-off-detected-stays-valid c = core-stays L F s _ (bus-off-detected-kept L (state-gate L F s) (s .core) ram own c) v
+
+    pub errors-counted-stays-valid : (c tx rx : ℕ) → Stays (errors-counted L F s sheet ram c tx rx)
+    unfolding errors-counted
+    errors-counted-stays-valid c tx rx = core-stays L F s _ (errors-counted-kept L (sheet-gate L F s sheet) (s .core) ram own c tx rx) v
 
     pub frame-arrived-stays-valid : (c : ℕ) (frame : F .Frame) → Stays (frame-arrived L F s sheet ram c frame)
     unfolding frame-arrived

@@ -8,7 +8,7 @@ use borrow.Author.Tests.{eqb-true, eq-eqb}
 use Rattle.rules.specs.Limits.{Limits}
 use Rattle.rules.specs.Format.{Format}
 use Rattle.rules.specs.Repeat.{all-below}
-use Rattle.rules.specs.Core.{Owner, Core, core-valid, has-places, counts-valid, nothing-in-use, owners-valid, owner-place-valid, pool-valid, controller-place-valid, mailbox-place-valid}
+use Rattle.rules.specs.Core.{Owner, Core, core-valid, has-places, counts-valid, nothing-in-use, owners-valid, owner-place-valid, pool-valid, controller-place-valid, mailbox-place-valid, errors-place-valid, all-errors-valid}
 use Rattle.rules.specs.Configuration.{settings-place-valid, settings-agreed, all-settings-valid}
 use Rattle.rules.specs.State.{State, with-core, valid}
 use Rattle.laws.proofs.Tests.{both, left, right}
@@ -22,6 +22,11 @@ pub record Valid (L : Limits) (core : Core) : Type 0 where
   pub owners : owners-valid L (core .controller-count) (core .object-count) (core .owners) ≡ true
   pub controllers : (c : ℕ) → c < L .controllers → controller-place-valid core c ≡ true
   pub mailboxes : (h : ℕ) → h < L .objects → mailbox-place-valid core h ≡ true
+
+-- what remains of it: the errors of each controller
+pub record ErrorsValid (L : Limits) (core : Core) : Type 0 where
+  pub places : length (core .errors) ≡ L .controllers
+  pub errors : (c : ℕ) → c < L .controllers → errors-place-valid core c ≡ true
 
 -- each owner is valid at its place, and so is each pool
 pub owners-placed : (L : Limits) (core : Core) → Valid L core → (h : ℕ) → h < L .objects → owner-place-valid (core .controller-count) (core .object-count) (core .owners) h ≡ true
@@ -47,8 +52,11 @@ module _ (L : Limits) (core : Core) where
   P₄ : Bool
   P₄ = P₃ && all-below (L .controllers) (controller-place-valid core)
 
+  P₅ : Bool
+  P₅ = P₄ && all-below (L .objects) (mailbox-place-valid core)
+
   pub core-facts : core-valid L core ≡ true → Valid L core
-  unfolding core-valid P₁ P₂ P₃ P₄
+  unfolding core-valid P₁ P₂ P₃ P₄ P₅
   core-facts v =
       let boxes = all-below (L .objects) (mailbox-place-valid core) in
       let controls = all-below (L .controllers) (controller-place-valid core) in
@@ -57,7 +65,8 @@ module _ (L : Limits) (core : Core) where
       let c = eqb (length (core .controllers)) (L .controllers) in
       let o = eqb (length (core .owners)) (L .objects) in
       let m = eqb (length (core .mailboxes)) (L .objects) in
-      let v₄ = left P₄ boxes v in
+      let v₅ = left P₅ (all-errors-valid L core) v in
+      let v₄ = left P₄ boxes v₅ in
       let v₃ = left P₃ controls v₄ in
       let v₂ = left P₂ configs v₃ in
       let v₁ = left P₁ counts v₂ in
@@ -68,13 +77,25 @@ module _ (L : Limits) (core : Core) where
         counts = right P₁ counts v₂;
         owners = right P₂ configs v₃;
         controllers = all-facts (L .controllers) (controller-place-valid core) (right P₃ controls v₄);
-        mailboxes = all-facts (L .objects) (mailbox-place-valid core) (right P₄ boxes v);
+        mailboxes = all-facts (L .objects) (mailbox-place-valid core) (right P₄ boxes v₅);
       }
 
-  pub facts-core : Valid L core → core-valid L core ≡ true
+  pub error-facts : core-valid L core ≡ true → ErrorsValid L core
+  unfolding core-valid P₁ P₂ P₃ P₄ P₅
+  error-facts v =
+      let places = eqb (length (core .errors)) (L .controllers) in
+      let each = all-below (L .controllers) (errors-place-valid core) in
+      let own = right P₅ (places && each) v in
+      record {
+        places = eqb-true (length (core .errors)) (L .controllers) (left places each own);
+        errors = all-facts (L .controllers) (errors-place-valid core) (right places each own);
+      }
+
+  pub facts-core : Valid L core → ErrorsValid L core → core-valid L core ≡ true
   unfolding core-valid
-  facts-core v =
+  facts-core v e =
       both
+      (both
       (both
       (both
       (both
@@ -82,7 +103,8 @@ module _ (L : Limits) (core : Core) where
       (v .counts))
       (v .owners))
       (facts-all (L .controllers) (controller-place-valid core) (v .controllers)))
-      (facts-all (L .objects) (mailbox-place-valid core) (v .mailboxes))
+      (facts-all (L .objects) (mailbox-place-valid core) (v .mailboxes)))
+      (both (eq-eqb _ _ (e .places)) (facts-all (L .controllers) (errors-place-valid core) (e .errors)))
 
 -- A call that looks at no frame leaves a valid core, and the owners as they were.
 pub record CoreKept (L : Limits) (before after : Core) : Type 0 where

@@ -1,5 +1,5 @@
--- The twelve calls on the driver state, in the order of 01, and 02's choice of who sends next. Each is a gate (41, 32, 33), then its part on the core (Services, Polls,
--- Events). Init and DeInit set what is configured of frames besides, Write and Arrived judge a frame and lay it down.
+-- The calls on the driver state, in the order of 01, with 02's questions, error counts and choice of who sends next. Each is a gate (41, 32,
+-- 33), then its part on the core (Services, Polls, Events). Init and DeInit set what is configured of frames besides, Write and Arrived judge a frame and lay it down.
 use Prim.Native.Nat.{ℕ}
 use mathlib.Core.Bool.{Bool, true, false, not}
 use mathlib.Core.List.{List, [], _∷_}
@@ -13,7 +13,7 @@ use Rattle.rules.specs.Reason.{Check, _if_, first-reason, _then_, CAN-E-
 use Rattle.rules.specs.Configuration.{Configuration, settings-at, configuration-of, accepted-bytes}
 use Rattle.rules.specs.Core.{free-member}
 use Rattle.rules.specs.State.{State, with-core, initial-state}
-use Rattle.rules.specs.Outcome.{Outcome, no-answer, taken-by, stored-in, unwanted, lost, service-report, no-report, rejected, accepted, judged, lifted, state-gate, sheet-gate, full-gate, ram-gate}
+use Rattle.rules.specs.Outcome.{Outcome, Question, no-answer, taken-by, stored-in, unwanted, lost, service-report, no-report, rejected, accepted, judged, lifted, state-gate, sheet-gate, full-gate, ram-gate}
 use Rattle.rules.specs.Services as services
 use Rattle.rules.specs.Services.{INIT, DEINIT, WRITE, configured-core, deinit-checks, write-reason, taken}
 use Rattle.rules.specs.Polls as polls
@@ -52,9 +52,9 @@ module _ (L : Limits) (F : Format) where
   unfoldable pub set-controller-mode : State F → ℕ → List ℕ → ℕ → ℕ → Outcome (State F)
   set-controller-mode s sheet ram c asked = lifted s (services.set-controller-mode (sheet-gate L F s sheet) (s .core) ram c asked)
 
-  -- "answers the mode, and 0 with a no"
-  unfoldable pub get-controller-mode : State F → ℕ → List ℕ → ℕ → Outcome (State F)
-  get-controller-mode s sheet ram c = lifted s (services.get-controller-mode (sheet-gate L F s sheet) (s .core) ram c)
+  -- GetControllerMode "answers the mode, and 0 with a no"; 02, Q-5: 0x11, 0x30 and 0x31, "checked as Get is"
+  unfoldable pub ask-controller : Question → State F → ℕ → List ℕ → ℕ → Outcome (State F)
+  ask-controller q s sheet ram c = lifted s (services.ask-controller (sheet-gate L F s sheet) q (s .core) ram c)
 
   -- the settings of object h
   abbrev pub settings-of-object : State F → ℕ → F .Settings
@@ -107,6 +107,10 @@ module _ (L : Limits) (F : Format) where
   -- "Bus-off(controller) sets the mark."
   unfoldable pub bus-off-detected : State F → List ℕ → ℕ → Outcome (State F)
   bus-off-detected s ram c = lifted s (events.bus-off-detected (state-gate L F s) (s .core) ram c)
+
+  -- 02, Q-5: "A new event, which takes the sheet, sets both to given numbers"
+  unfoldable pub errors-counted : State F → ℕ → List ℕ → ℕ → ℕ → ℕ → Outcome (State F)
+  errors-counted s sheet ram c tx rx = lifted s (events.errors-counted (sheet-gate L F s sheet) (s .core) ram c tx rx)
 
   -- the object that fits best among the full ones (true) or the empty ones (false)
   abbrev pub best-object : State F → ℕ → F .Frame → Bool → Option ℕ

@@ -8,6 +8,7 @@ use lib.Dec.{eqb, ltb, leb}
 use Rattle.rules.specs.Limits.{Limits}
 use Rattle.rules.specs.Mode.{UNINIT, STARTED, SLEEP, NO-REQUEST, permitted}
 use Rattle.rules.specs.Repeat.{all-below, lowest-or}
+use Rattle.rules.specs.Errors.{Errors, no-errors, errors-none, within-limit, above-bus-off, error-state-of}
 
 -- "its mode, a waiting request (none or a mode) and an off-bus mark"
 pub record Controller : Type 0 where
@@ -42,6 +43,8 @@ pub record Core : Type 0 where
   pub controllers : List Controller
   -- a place for each object
   pub mailboxes : List Mailbox
+  -- a place for each controller
+  pub errors : List Errors
 
 -- A place at rest: everything zero, none or clear.
 abbrev pub idle-controller : Controller
@@ -65,6 +68,9 @@ mailbox-empty m = not (m .tx-pending) && not (m .tx-done) && not (m .rx-full)
 abbrev pub controller-at : List Controller → ℕ → Controller
 controller-at ks c = getD ks c idle-controller
 
+abbrev pub errors-at : List Errors → ℕ → Errors
+errors-at es c = getD es c no-errors
+
 abbrev pub owner-at : List Owner → ℕ → Owner
 owner-at os h = getD os h unused-owner
 
@@ -73,6 +79,11 @@ mailbox-at ms h = getD ms h empty-mailbox
 
 abbrev pub is-started : Controller → Bool
 is-started k = eqb (k .mode) STARTED
+
+-- the error state of a controller. 02, Q-5: "The state is bus-off also while the off-bus mark stands.", and the second mark "keeps the
+-- state bus-off until STARTED"
+abbrev pub error-state : Controller → Errors → ℕ
+error-state k e = error-state-of (k .bus-off || e .recovering) (e .tx-errors) (e .rx-errors)
 
 -- What the checks of several calls ask
 
@@ -120,6 +131,7 @@ with-controllers core ks =
       owners = core .owners;
       controllers = ks;
       mailboxes = core .mailboxes;
+      errors = core .errors;
     }
 
 abbrev pub with-mailboxes : Core → List Mailbox → Core
@@ -131,6 +143,19 @@ with-mailboxes core ms =
       owners = core .owners;
       controllers = core .controllers;
       mailboxes = ms;
+      errors = core .errors;
+    }
+
+abbrev pub with-errors : Core → List Errors → Core
+with-errors core es =
+    record {
+      initialised = core .initialised;
+      controller-count = core .controller-count;
+      object-count = core .object-count;
+      owners = core .owners;
+      controllers = core .controllers;
+      mailboxes = core .mailboxes;
+      errors = es;
     }
 
 -- When a core is valid
@@ -141,6 +166,14 @@ controller-valid k =
     leb STARTED (k .mode) && leb (k .mode) SLEEP
     && (eqb (k .requested-mode) NO-REQUEST || permitted (k .mode) (k .requested-mode))
     && (not (k .bus-off) || is-started k)
+
+-- 02, Q-5: "A sound state has counts up to 65,535, above 255 for transmit only with one of the two marks; the second never stands on a
+-- STARTED controller."
+abbrev pub errors-valid : Controller → Errors → Bool
+errors-valid k e =
+    within-limit (e .tx-errors) (e .rx-errors)
+    && (not (above-bus-off (e .tx-errors)) || (k .bus-off || e .recovering))
+    && (not (e .recovering) || not (is-started k))
 
 -- "controller (below the count)"
 abbrev pub owner-valid : ℕ → Owner → Bool
@@ -164,6 +197,11 @@ mailbox-valid receiving started m =
 abbrev pub controller-place-valid : Core → ℕ → Bool
 controller-place-valid core c =
     cond (ltb c (core .controller-count)) (controller-valid (controller-at (core .controllers) c)) (controller-idle (controller-at (core .controllers) c))
+
+abbrev pub errors-place-valid : Core → ℕ → Bool
+errors-place-valid core c =
+    cond (ltb c (core .controller-count)) (errors-valid (controller-at (core .controllers) c) (errors-at (core .errors) c))
+    (errors-none (errors-at (core .errors) c))
 
 -- so many controllers and objects are in use
 abbrev pub owner-place-valid : ℕ → ℕ → List Owner → ℕ → Bool
@@ -196,6 +234,9 @@ module _ (L : Limits) where
   owners-valid controller-count object-count os =
       all-below (L .objects) (owner-place-valid controller-count object-count os) && all-below object-count (pool-valid (L .objects) os)
 
+  abbrev pub all-errors-valid : Core → Bool
+  all-errors-valid core = eqb (length (core .errors)) (L .controllers) && all-below (L .controllers) (errors-place-valid core)
+
   -- "uninitialised with everything else at rest ..; or its configuration is one that Init accepts, .. and unused places are at rest": all of
   -- it but what the configuration says of frames
   unfoldable pub core-valid : Core → Bool
@@ -205,6 +246,7 @@ module _ (L : Limits) where
       && owners-valid (core .controller-count) (core .object-count) (core .owners)
       && all-below (L .controllers) (controller-place-valid core)
       && all-below (L .objects) (mailbox-place-valid core)
+      && all-errors-valid core
 
   -- before Init: nothing in use, everything at rest
   abbrev pub initial-core : Core
@@ -216,4 +258,5 @@ module _ (L : Limits) where
         owners = replicate (L .objects) unused-owner;
         controllers = replicate (L .controllers) idle-controller;
         mailboxes = replicate (L .objects) empty-mailbox;
+        errors = replicate (L .controllers) no-errors;
       }

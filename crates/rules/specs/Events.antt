@@ -6,8 +6,10 @@ use mathlib.Core.Option.{Option, none}
 use lib.ListN.{set}
 use lib.Dec.{eqb}
 use Rattle.rules.specs.Repeat.{best-below}
-use Rattle.rules.specs.Reason.{Check, _if_, first-reason, _then_, CAN-E-PARAM-HANDLE, CAN-E-PARAM-CONTROLLER, CAN-E-UNINIT, NOT-STARTED, BUS-OFF, NOTHING-TO-SEND}
-use Rattle.rules.specs.Core.{Controller, Owner, Mailbox, Core, controller-at, owner-at, mailbox-at, is-started, in-use, is-sending, controller-of, with-controllers, with-mailboxes}
+use Rattle.rules.specs.Reason.{Check, _if_, first-reason, _then_, CAN-E-PARAM-HANDLE, CAN-E-PARAM-CONTROLLER, CAN-E-UNINIT, NOT-STARTED, BUS-OFF, NOTHING-TO-SEND, ERROR-COUNT-TOO-LARGE}
+use Rattle.rules.specs.Notification.{Notification, error-passive-indication}
+use Rattle.rules.specs.Errors.{Errors, within-limit, above-bus-off, capped, ERRORSTATE-ACTIVE, ERRORSTATE-PASSIVE}
+use Rattle.rules.specs.Core.{Controller, Owner, Mailbox, Core, controller-at, errors-at, owner-at, mailbox-at, is-started, error-state, in-use, is-sending, controller-of, with-controllers, with-mailboxes, with-errors}
 use Rattle.rules.specs.Outcome.{Outcome, no-answer, sends-next, no-report, rejected, accepted, judged}
 
 -- Sent
@@ -57,6 +59,40 @@ bus-off-detected gate core ram c =
     judged (gate then first-reason (on-bus-checks core c))
     (rejected no-report no-answer core ram)
     (accepted no-answer (with-controllers core (set (core .controllers) c (marked-bus-off (controller-at (core .controllers) c)))) ram [])
+
+-- Error counts. 02, Q-5: "A new event .. sets both to given numbers up to 65,535"
+
+-- "41, 32, 5, 4, 35, 37, and 43 for a larger number"
+abbrev pub errors-counted-reason : Core → ℕ → ℕ → ℕ → ℕ
+errors-counted-reason core c tx rx =
+    first-reason (on-bus-checks core c) then first-reason (ERROR-COUNT-TOO-LARGE if not (within-limit tx rx) ∷ [])
+
+-- "bus-off where the transmit count is above 255; the event then sets the off-bus mark itself"
+abbrev pub counted-controller : ℕ → Controller → Controller
+counted-controller tx k = cond (above-bus-off tx) (marked-bus-off k) k
+
+-- "sets both"
+abbrev pub counted-errors : ℕ → ℕ → Errors → Errors
+counted-errors tx rx e = record { recovering = e .recovering; tx-errors = tx; rx-errors = rx }
+
+-- "Entering passive from active"
+abbrev pub enters-passive : ℕ → ℕ → Controller → Errors → Bool
+enters-passive tx rx k e =
+    eqb (error-state k e) ERRORSTATE-ACTIVE && eqb (error-state (counted-controller tx k) (counted-errors tx rx e)) ERRORSTATE-PASSIVE
+
+-- ".. writes a record of a new kind 8: controller, transmit count, receive count, each at most 255"
+abbrev pub passive-report : ℕ → ℕ → ℕ → Controller → Errors → List Notification
+passive-report c tx rx k e = cond (enters-passive tx rx k e) (error-passive-indication c (capped tx) (capped rx) ∷ []) []
+
+unfoldable pub errors-counted : ℕ → Core → List ℕ → ℕ → ℕ → ℕ → Outcome Core
+errors-counted gate core ram c tx rx =
+    let k = controller-at (core .controllers) c in
+    let e = errors-at (core .errors) c in
+    judged (gate then errors-counted-reason core c tx rx)
+    (rejected no-report no-answer core ram)
+    (accepted no-answer
+    (with-errors (with-controllers core (set (core .controllers) c (counted-controller tx k))) (set (core .errors) c (counted-errors tx rx e)))
+    ram (passive-report c tx rx k e))
 
 -- Arrived: the choice of its object. The frame is known by what accepts it, and by the rank of each object that does.
 

@@ -2,26 +2,29 @@
 -- other.
 --
 -- Core is the part of the driver state that never sees a frame: who owns each object, and what waits where. Services, Polls and Events
--- have the parts of the calls that look at no frame, on a core. Calls has the twelve calls themselves and 02's choice of who sends next, on a
--- driver state: a core, and what is configured of each object's frames. Writer has a configuration's bytes. Each is written once, for any
--- limits (Limits) and any kind of frame (Format). Can is 01's kind of frame, and Chip has the limits of this chip.
+-- have the parts of the calls that look at no frame, on a core. Calls has the calls themselves, 01's twelve and 02's questions, error counts
+-- and choice of who sends next, on a driver state: a core, and what is configured of each object's frames. Writer has a configuration's bytes.
+-- Each is written once, for any limits (Limits) and any kind of frame (Format). Can is 01's kind of frame, and Chip has the limits of this chip.
 --
 -- Identifiers are the field's terms. The glossary gives 01's word, the identifier for it here, and what to know beside; words that are
 -- the same in both are left out. Its groups are the sections of 01, with the files that state them.
 --
 -- What the bench is made of; Records (Limits, Chip, Core, State, Bytes, Head, Notification)
 --   controller                   Controller                           its mode, request and mark; c is its number
+--   its errors (02, Q-5)         Errors                               of a controller too: its second mark and its two counts
 --   hardware object, object      Owner, Mailbox, Settings             its owner and kind, its flags, its frames' settings; h is its number
 --   sending, receiving; kind     receiving                            of an Owner: false, true
 --   pool, pool number (02, Q-2)  pool                                 of an Owner; 0 of a receiving one. A member is in-pool
---   place                        controller-at, owner-at, mailbox-at  an entry of the state's lists, in use or not; settings-at too
+--   place                        controller-at, owner-at, mailbox-at  an entry of the state's lists, in use or not; errors-at, settings-at too
 --   driver state                 State                                a Core, and the settings of each object
 --   sound                        valid                                what of it looks at no frame is core-valid
---   at rest, unused (controller) idle-controller                      everything zero, none or clear; the test is controller-idle
+--   at rest, unused (controller) idle-controller, no-errors           everything zero, none or clear; the tests are controller-idle, errors-none
 --   at rest, unused (object)     unused-owner, empty-mailbox          and unused-settings; tested by owner-unused and mailbox-empty
 --   sound before initialisation  initial-state                        its core is initial-core
 --   waiting request              requested-mode                       none is NO-REQUEST
 --   off-bus mark, marked         bus-off                              of a Controller
+--   second mark (02, Q-5)        recovering                           of its Errors
+--   transmit, receive count      tx-errors, rx-errors                 of its Errors; the state that they make: error-state
 --   occupied                     tx-pending                           written, and its closing notice is due; else it is free
 --   gone                         tx-done                              sent, and its confirmation is due
 --   full                         rx-full                              received, and its indication is due; else it is empty
@@ -54,7 +57,7 @@
 -- Modes; Services and polls (Mode, Services, Polls, Calls, Can)
 --   Init, DeInit, Write          init, deinit, write
 --   SetControllerMode, Set       set-controller-mode
---   GetControllerMode, Get       get-controller-mode
+--   GetControllerMode, Get       ask-controller                       of-mode; 02's questions, Q-5: of-error-state, of-rx-errors, of-tx-errors
 --   handle                       handle                               read back from an object's bytes by handle-in
 --   names the pool (02, Q-2)     names-pool                           a sending object that is its pool's lowest: lowest-of
 --   lowest free member           free-member                          of the pool of object h; h itself where none is free
@@ -70,12 +73,14 @@
 --   for each marked controller   going-off                            what a marked controller is then: entering-bus-off
 --   leaving STARTED, a stop      leaves-started
 --   mode record, bus-off record  mode-indication, bus-off-indication
+--   entering passive (02, Q-5)   error-passive-indication             its record, kind 8, and passive-report, which writes it
 --   in rising order              rising                               over numbers below n, each step on what the last one left (Repeat)
 --   Data of an object            data-of
 --
 -- Bench events (Events, Calls, Can)
 --   Sent                         tx-complete                          an unsent frame is has-unsent
 --   Bus-off                      bus-off-detected
+--   error counts (02, Q-5)       errors-counted                       "A new event .. sets both"; the mark by it: counted-controller
 --   Arrived                      frame-arrived                        best-object is the one that fits best, the lowest among equals
 --   stored, unwanted, lost       stored-in, unwanted, lost            answers of an arrival; a write's answer is taken-by
 --   runtime error, data lost     data-lost
@@ -108,6 +113,7 @@ pub mod Head
 pub mod Notification
 pub mod Reason
 pub mod Mode
+pub mod Errors
 pub mod Core
 pub mod Format
 pub mod Configuration

@@ -18,6 +18,8 @@ pub data Notification : Type 0 where
   data-lost : ℕ → Notification
   -- "cancelled": object, handle
   tx-cancellation : ℕ → ℕ → Notification
+  -- 02, Q-5: "Entering passive from active": "controller, transmit count, receive count"
+  error-passive-indication : ℕ → ℕ → ℕ → Notification
 
 -- the four words of a notification, the kind first
 unfoldable pub words : Notification → List ℕ
@@ -28,6 +30,7 @@ words (bus-off-indication c) = 4 ∷ c ∷ 0 ∷ 0 ∷ []
 words (development-error service error) = 5 ∷ service ∷ error ∷ 0 ∷ []
 words (data-lost h) = 6 ∷ h ∷ 1 ∷ 0 ∷ []
 words (tx-cancellation h handle) = 7 ∷ h ∷ handle ∷ 0 ∷ []
+words (error-passive-indication c tx rx) = 8 ∷ c ∷ tx ∷ rx ∷ []
 
 unfoldable pub all-words : List Notification → List ℕ
 all-words [] = []

@@ -12,11 +12,15 @@ use Rattle.rules.specs.Reason.{Check, _if_, E-OK, first-reason, return-c
 use Rattle.rules.specs.Core.{Core}
 use Rattle.rules.specs.State.{State, with-core, valid}
 
+-- what can be asked of a controller: GetControllerMode's mode, and 02's, Q-5, "the state .. and the receive and transmit counts"
+pub data Question : Type 0 where
+  of-mode of-error-state of-rx-errors of-tx-errors : Question
+
 -- what a call answers beside its return code and reason
 pub data Answer : Type 0 where
   no-answer : Answer
-  -- GetControllerMode's mode
-  mode : ℕ → Answer
+  -- the answer to a question of a controller
+  told : Question → ℕ → Answer
   -- the object that took a write
   taken-by : ℕ → Answer
   -- the three ends of an arrival: "stored, with the object's number; unwanted, where no object fits; or lost, where all that fit are full"

@@ -10,7 +10,8 @@ use Rattle.rules.specs.Bytes.{part}
 use Rattle.rules.specs.Head.{identifier-in, length-in, handle-in}
 use Rattle.rules.specs.Mode.{STARTED, STOPPED, NO-REQUEST}
 use Rattle.rules.specs.Notification.{Notification, tx-confirmation, tx-cancellation, rx-indication, mode-indication, bus-off-indication}
-use Rattle.rules.specs.Core.{Controller, Owner, Mailbox, Core, empty-mailbox, controller-at, owner-at, mailbox-at, is-started, with-mailboxes}
+use Rattle.rules.specs.Errors.{Errors, no-errors}
+use Rattle.rules.specs.Core.{Controller, Owner, Mailbox, Core, empty-mailbox, controller-at, errors-at, owner-at, mailbox-at, is-started, with-mailboxes, with-errors}
 use Rattle.rules.specs.Outcome.{Outcome, no-answer, no-report, rejected, accepted, judged}
 
 -- how far a sweep over the objects has come: the mailboxes, and what was reported so far
@@ -46,13 +47,15 @@ visit-all v count b = rising count (visit-one v) b
 abbrev pub closing-notification : Mailbox → ℕ → ℕ → Notification
 closing-notification m h handle = cond (m .tx-done) (tx-confirmation h handle) (tx-cancellation h handle)
 
--- What a poll does at a controller: when its turn is due, whether it leaves the bus then, the notification that tells of it, and what it is
--- afterwards.
+-- What a poll does at a controller: when its turn is due, whether it leaves the bus then, the notification that tells of it, and what it and
+-- its errors are afterwards.
 pub record Turn : Type 0 where
   pub due : Controller → Bool
   pub leaves : Controller → Bool
   pub note : ℕ → Controller → Notification
   pub entered : Controller → Controller
+  -- of the controller as it was, and of its errors
+  pub errors-after : Controller → Errors → Errors
 
 -- "A waiting request is carried out", "skipping those marked off-bus"
 abbrev pub takes-request : Controller → Bool
@@ -70,14 +73,43 @@ entering-request k = record { mode = k .requested-mode; requested-mode = NO-REQU
 abbrev pub entering-bus-off : Controller → Controller
 entering-bus-off k = record { mode = STOPPED; requested-mode = NO-REQUEST; bus-off = false }
 
+-- 02, Q-5: "STARTED, which clears it and sets both counts to zero; other moves .. keep all three"
+abbrev pub entering-errors : Controller → Errors → Errors
+entering-errors k e = cond (eqb (k .requested-mode) STARTED) no-errors e
+
+-- 02, Q-5: "A bus-off poll leaves a second mark"
+abbrev pub bus-off-errors : Controller → Errors → Errors
+bus-off-errors k e = record { recovering = true; tx-errors = e .tx-errors; rx-errors = e .rx-errors }
+
 -- "leaving STARTED cancels and frees every occupied object, rising, before the mode record"; 02, Q-4: those that are gone are confirmed
 abbrev pub mode-change : Turn
-mode-change = record { due = takes-request; leaves = leaves-started; note = λ c k. mode-indication c (k .requested-mode); entered = entering-request }
+mode-change =
+    record {
+      due = takes-request;
+      leaves = leaves-started;
+      note = λ c k. mode-indication c (k .requested-mode);
+      entered = entering-request;
+      errors-after = entering-errors;
+    }
 
 -- "for each marked controller ..: its occupied objects are cancelled and freed, the bus-off record follows, the mode becomes STOPPED"; 02,
 -- Q-4: those that are gone are confirmed
 abbrev pub going-off : Turn
-going-off = record { due = λ k. k .bus-off; leaves = λ k. true; note = λ c k. bus-off-indication c; entered = entering-bus-off }
+going-off =
+    record {
+      due = λ k. k .bus-off;
+      leaves = λ k. true;
+      note = λ c k. bus-off-indication c;
+      entered = entering-bus-off;
+      errors-after = bus-off-errors;
+    }
+
+-- what a poll leaves of the errors of each controller whose turn is due; nothing is told of them, so they stand beside the sweep
+abbrev pub errors-one : Turn → List Controller → ℕ → List Errors → List Errors
+errors-one t ks c es = let k = controller-at ks c in cond (t .due k) (set es c (t .errors-after k (errors-at es c))) es
+
+unfoldable pub errors-all : Turn → ℕ → List Controller → List Errors → List Errors
+errors-all t count ks es = rising count (errors-one t ks) es
 
 -- where a sweep over the objects, and one over the controllers, begins
 abbrev pub boxes-of : Core → Boxes
@@ -96,6 +128,7 @@ after-sweep core w =
       owners = core .owners;
       controllers = w .controllers;
       mailboxes = w .boxes .mailboxes;
+      errors = core .errors;
     }
 
 -- an object has so many bytes of memory
@@ -144,7 +177,10 @@ objects-polled gate v core ram =
     let b = visit-all v (core .object-count) (boxes-of core) in polled gate core ram (with-mailboxes core (b .mailboxes)) (b .notifications)
 
 abbrev pub controllers-polled : ℕ → ℕ → Turn → Core → List ℕ → Outcome Core
-controllers-polled gate size t core ram = let w = turn-all size t core ram in polled gate core ram (after-sweep core w) (w .boxes .notifications)
+controllers-polled gate size t core ram =
+    let w = turn-all size t core ram in
+    let es = errors-all t (core .controller-count) (core .controllers) (core .errors) in
+    polled gate core ram (with-errors (after-sweep core w) es) (w .boxes .notifications)
 
 -- The polls on the core: the size of an object, for the read poll the bytes of its length, and the gate's reason come first.
 unfoldable pub main-function-write : ℕ → ℕ → Core → List ℕ → Outcome Core

@@ -61,6 +61,10 @@ BAD-LENGTH = 40
 abbrev pub INVALID-STATE : ℕ
 INVALID-STATE = 41
 
+-- 02, Q-5: "43 for a larger number"
+abbrev pub ERROR-COUNT-TOO-LARGE : ℕ
+ERROR-COUNT-TOO-LARGE = 43
+
 -- one line of a call's list of reasons: `reason if test`
 pub record Check : Type 0 where
   pub reason : ℕ

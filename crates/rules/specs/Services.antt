@@ -9,8 +9,9 @@ use Rattle.rules.specs.Limits.{Limits}
 use Rattle.rules.specs.Repeat.{all-below, list-below}
 use Rattle.rules.specs.Mode.{STOPPED, NO-REQUEST, permitted}
 use Rattle.rules.specs.Reason.{Check, _if_, first-reason, _then_, CAN-E-PARAM-HANDLE, CAN-E-PARAM-CONTROLLER, CAN-E-UNINIT, CAN-E-TRANSITION, NOT-STARTED, OBJECT-BUSY}
-use Rattle.rules.specs.Core.{Controller, Owner, Mailbox, Core, idle-controller, empty-mailbox, controller-at, mailbox-at, is-started, in-use, controller-of, names-pool, free-member, with-controllers, with-mailboxes}
-use Rattle.rules.specs.Outcome.{Outcome, no-answer, mode, service-report, rejected, accepted, judged}
+use Rattle.rules.specs.Errors.{Errors, no-errors, capped}
+use Rattle.rules.specs.Core.{Controller, Owner, Mailbox, Core, idle-controller, empty-mailbox, controller-at, errors-at, mailbox-at, is-started, error-state, in-use, controller-of, names-pool, free-member, with-controllers, with-mailboxes}
+use Rattle.rules.specs.Outcome.{Outcome, Question, of-mode, of-error-state, of-rx-errors, of-tx-errors, no-answer, told, service-report, rejected, accepted, judged}
 
 -- the service numbers
 abbrev pub INIT : ℕ
@@ -25,8 +26,17 @@ WRITE = 0x06
 abbrev pub DEINIT : ℕ
 DEINIT = 0x10
 
+abbrev pub GET-CONTROLLER-ERROR-STATE : ℕ
+GET-CONTROLLER-ERROR-STATE = 0x11
+
 abbrev pub GET-CONTROLLER-MODE : ℕ
 GET-CONTROLLER-MODE = 0x12
+
+abbrev pub GET-CONTROLLER-RX-ERROR-COUNTER : ℕ
+GET-CONTROLLER-RX-ERROR-COUNTER = 0x30
+
+abbrev pub GET-CONTROLLER-TX-ERROR-COUNTER : ℕ
+GET-CONTROLLER-TX-ERROR-COUNTER = 0x31
 
 -- Init
 
@@ -44,6 +54,7 @@ configured-core L controller-count object-count owners =
       owners = owners;
       controllers = list-below (L .controllers) (λ c. cond (ltb c controller-count) stopped-controller idle-controller);
       mailboxes = replicate (L .objects) empty-mailbox;
+      errors = replicate (L .controllers) no-errors;
     }
 
 -- DeInit
@@ -80,18 +91,31 @@ set-controller-mode gate core ram c asked =
     (rejected (service-report SET-CONTROLLER-MODE) no-answer core ram)
     (accepted no-answer (mode-requested core c asked) ram [])
 
--- GetControllerMode
+-- GetControllerMode, and the three questions of 02, Q-5, "checked as Get is"
+
+abbrev pub question-service : Question → ℕ
+question-service of-mode = GET-CONTROLLER-MODE
+question-service of-error-state = GET-CONTROLLER-ERROR-STATE
+question-service of-rx-errors = GET-CONTROLLER-RX-ERROR-COUNTER
+question-service of-tx-errors = GET-CONTROLLER-TX-ERROR-COUNTER
+
+-- GetControllerMode "answers the mode"; "the state (0 active, 1 passive, 2 bus-off) and the receive and transmit counts capped at 255"
+abbrev pub answer-to : Question → Controller → Errors → ℕ
+answer-to of-mode k e = k .mode
+answer-to of-error-state k e = error-state k e
+answer-to of-rx-errors k e = capped (e .rx-errors)
+answer-to of-tx-errors k e = capped (e .tx-errors)
 
 -- "Get: 5, 4."
-abbrev pub get-controller-mode-checks : Core → ℕ → List Check
-get-controller-mode-checks core c = CAN-E-UNINIT if not (core .initialised) ∷ CAN-E-PARAM-CONTROLLER if not (in-use core c) ∷ []
+abbrev pub ask-controller-checks : Core → ℕ → List Check
+ask-controller-checks core c = CAN-E-UNINIT if not (core .initialised) ∷ CAN-E-PARAM-CONTROLLER if not (in-use core c) ∷ []
 
--- "answers the mode, and 0 with a no"
-unfoldable pub get-controller-mode : ℕ → Core → List ℕ → ℕ → Outcome Core
-get-controller-mode gate core ram c =
-    judged (gate then first-reason (get-controller-mode-checks core c))
-    (rejected (service-report GET-CONTROLLER-MODE) (mode 0) core ram)
-    (accepted (mode (controller-at (core .controllers) c .mode)) core ram [])
+-- "and 0 with a no"; gate is the reason that the call's gate found
+unfoldable pub ask-controller : ℕ → Question → Core → List ℕ → ℕ → Outcome Core
+ask-controller gate q core ram c =
+    judged (gate then first-reason (ask-controller-checks core c))
+    (rejected (service-report (question-service q)) (told q 0) core ram)
+    (accepted (told q (answer-to q (controller-at (core .controllers) c) (errors-at (core .errors) c))) core ram [])
 
 -- Write
 

@@ -11,12 +11,14 @@ use Rattle.history.specs.Cancellation.{CancellationRule}
 use Rattle.history.specs.PollRule.{PollRule, FirstPollRule}
 use Rattle.history.specs.Demand1.{RefusalRule, ValidRule}
 use Rattle.history.specs.Operators.{OthersRule, ReceivedRule}
+use Rattle.history.specs.ErrorStates.{ErrorRule}
 use Rattle.history.specs.Replay.{ReplayRule}
 use Rattle.history.proofs.Proved.{demand-3, reference-rule}
 use Rattle.history.proofs.Cancellation.{cancellation-rule}
 use Rattle.history.proofs.PollRule.{poll-rule, first-poll-rule}
 use Rattle.history.proofs.Demand1.{refusal-rule, valid-rule}
 use Rattle.history.proofs.Operators.{others-rule, received-rule}
+use Rattle.history.proofs.ErrorStates.{error-rule}
 use Rattle.history.proofs.Replay.{replay-rule}
 use Rattle.second_format.specs.Ranged.{ranged-format, small-chip}
 use Rattle.second_format.proofs.Lawful.{ranged-lawful}
@@ -59,6 +61,10 @@ ranged-others-rule = others-rule small-chip ranged-format
 -- a received frame survives every poll but the read poll
 pub ranged-received-rule : ReceivedRule small-chip ranged-format
 ranged-received-rule = received-rule small-chip ranged-format
+
+-- 02, Q-5: error states are answered, and entering passive told, as the calls have made them
+pub ranged-error-rule : ErrorRule small-chip ranged-format
+ranged-error-rule = error-rule small-chip ranged-format ranged-lawful
 
 -- calls that are handed one sheet, one after the other, leave what the list of them leaves
 pub ranged-replay-rule : ReplayRule small-chip ranged-format

@@ -17,7 +17,7 @@ use Rattle.rules.specs.Outcome.{Answer, no-answer, taken-by, stored-in, judged,
 use Rattle.rules.specs.Services as services
 use Rattle.rules.specs.Services.{WRITE}
 use Rattle.rules.specs.Polls as polls
-use Rattle.rules.specs.Polls.{visit-all, turn-all}
+use Rattle.rules.specs.Polls.{visit-all, turn-all, errors-all}
 use Rattle.rules.specs.Events as events
 use Rattle.rules.specs.Calls.{init, set-controller-mode, write, main-function-write, main-function-read, main-function-mode, tx-complete, frame-arrived}
 use Rattle.history.specs.Call.{Call, Init, SetControllerMode, Write, MainFunctionWrite, MainFunctionRead, MainFunctionMode, TxComplete, FrameArrived, performed}
@@ -97,5 +97,5 @@ memory =
 
 -- each call gives what stands beside it, and together they leave this memory
 pub ranged-lines : (map of-step (history small-chip ranged-format calls ram) ≡ map (λ r. r .given) table) × (left-by small-chip ranged-format calls (initial-state small-chip ranged-format) ram .ram ≡ memory)
-unfolding rising all-below list-below lowest-or better best-below big-endian number splice same-bytes first-reason return-code configuration-of accepted-bytes core-valid valid judged state-gate sheet-gate full-gate init set-controller-mode write main-function-write main-function-read main-function-mode tx-complete frame-arrived services.set-controller-mode polls.main-function-write polls.main-function-read polls.main-function-mode visit-all turn-all events.tx-complete events.best-object performed trace left-by object-bytes
+unfolding rising all-below list-below lowest-or better best-below big-endian number splice same-bytes first-reason return-code configuration-of accepted-bytes core-valid valid judged state-gate sheet-gate full-gate init set-controller-mode write main-function-write main-function-read main-function-mode tx-complete frame-arrived services.set-controller-mode polls.main-function-write polls.main-function-read polls.main-function-mode visit-all turn-all errors-all events.tx-complete events.best-object performed trace left-by object-bytes
 ranged-lines = (refl, refl)

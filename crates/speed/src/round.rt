@@ -111,7 +111,7 @@ fn looked(done: Done, sheet: &mut [u32]) -> Done {
     let asked = can::get_controller_mode(before, sheet, 0);
     let state = asked.state;
     let reply = asked.reply;
-    let next = counted(sum, can::mode_verdict(reply), asked.notifications);
+    let next = counted(sum, can::question_verdict(reply), asked.notifications);
     Done {
         state: state,
         sum: next,

@@ -40,7 +40,7 @@ fn reason_of_state(code: u32, mask: u32) -> u32 {
     state.masks[1] = mask;
     let asked = can::get_controller_mode(state, &mut sheet, 0);
     let reply = asked.reply;
-    can::verdict_reason(can::mode_verdict(reply))
+    can::verdict_reason(can::question_verdict(reply))
 }
 
 fn filter(code: u32, mask: u32) {

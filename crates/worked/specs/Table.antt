@@ -1,6 +1,6 @@
 -- 01, "Played by hand": the lines with * as one table, proved by computation. "P1 to P11 are one sequence", from the state before
 -- initialisation; P10 has no * and stands here because it belongs to the sequence. 02, Q-4, "P8 and P11 stand; add the mixed case": a
--- second sequence, in a table of its own.
+-- second sequence, in a table of its own. A third has the thresholds of 02, Q-5, on both sides.
 use Prim.Native.Nat.{ℕ}
 use mathlib.Core.Path.{_≡_, refl}
 use mathlib.Core.List.{List, [], _∷_, _++_, map}
@@ -14,12 +14,12 @@ use Rattle.rules.specs.Mode.{STARTED, STOPPED}
 use Rattle.rules.specs.Core.{controller-at, core-valid}
 use Rattle.rules.specs.Configuration.{configuration-of, accepted-bytes}
 use Rattle.rules.specs.State.{State, valid, initial-state}
-use Rattle.rules.specs.Outcome.{Outcome, Answer, no-answer, taken-by, stored-in, unwanted, lost, judged, state-gate, sheet-gate, full-gate}
+use Rattle.rules.specs.Outcome.{Outcome, Question, of-error-state, of-rx-errors, of-tx-errors, Answer, no-answer, told, taken-by, stored-in, unwanted, lost, judged, state-gate, sheet-gate, full-gate}
 use Rattle.rules.specs.Services as services
 use Rattle.rules.specs.Polls as polls
-use Rattle.rules.specs.Polls.{visit-all, turn-all}
+use Rattle.rules.specs.Polls.{visit-all, turn-all, errors-all}
 use Rattle.rules.specs.Events as events
-use Rattle.rules.specs.Calls.{init, set-controller-mode, write, main-function-write, main-function-read, main-function-mode, main-function-bus-off, tx-complete, bus-off-detected, frame-arrived}
+use Rattle.rules.specs.Calls.{init, set-controller-mode, ask-controller, write, main-function-write, main-function-read, main-function-mode, main-function-bus-off, tx-complete, bus-off-detected, errors-counted, frame-arrived}
 use Rattle.rules.specs.Can.{Frame, can-format, next-length, lengths-below, object-bytes}
 use Rattle.rules.specs.Chip.{chip}
 
@@ -119,6 +119,13 @@ mode-poll s ram = main-function-mode chip can-format s sheet ram
 bus-off-poll : Call
 bus-off-poll s ram = main-function-bus-off chip can-format s sheet ram
 
+-- transmit and receive count of controller 0, and a question of it
+counts : ℕ → ℕ → Call
+counts tx rx s ram = errors-counted chip can-format s sheet ram 0 tx rx
+
+question : Question → Call
+question q s ram = ask-controller chip can-format q s sheet ram 0
+
 -- The lines
 
 -- object 0 before the first write
@@ -209,15 +216,68 @@ mixed =
     ∷ write-poll gives line 0 0 no-answer [] 2 laid-down
     ∷ [])
 
+-- a question of controller 0, in this mode, and its answer
+tells : Question → ℕ → ℕ → Row
+tells q mode n = question q gives line 0 0 (told q n) [] mode blank
+
+-- "error passive where either count is above 127 and bus-off where the transmit count is above 255", "up to 65,535"
+pub thresholds : List Row
+thresholds =
+    init-K gives line 0 0 no-answer [] 2 blank
+    ∷ tells of-error-state 2 0
+    ∷ counts 0 0 gives line 1 35 no-answer [] 2 blank
+    ∷ ask STARTED gives line 0 0 no-answer [] 2 blank
+    ∷ mode-poll gives line 0 0 no-answer (words-are 3 0 1 0 ∷ []) 1 blank
+    -- the transmit count: active up to 127, passive up to 255, told on entering alone
+    ∷ counts 127 127 gives line 0 0 no-answer [] 1 blank
+    ∷ tells of-error-state 1 0
+    ∷ counts 128 127 gives line 0 0 no-answer (words-are 8 0 128 127 ∷ []) 1 blank
+    ∷ tells of-error-state 1 1
+    ∷ counts 255 128 gives line 0 0 no-answer [] 1 blank
+    ∷ tells of-error-state 1 1
+    ∷ tells of-tx-errors 1 255
+    ∷ tells of-rx-errors 1 128
+    -- the receive count: passive from 128 on, whatever it is; the record and the answer have 255 at most
+    ∷ counts 127 127 gives line 0 0 no-answer [] 1 blank
+    ∷ counts 127 128 gives line 0 0 no-answer (words-are 8 0 127 128 ∷ []) 1 blank
+    ∷ counts 0 0 gives line 0 0 no-answer [] 1 blank
+    ∷ counts 0 65535 gives line 0 0 no-answer (words-are 8 0 0 255 ∷ []) 1 blank
+    ∷ tells of-error-state 1 1
+    ∷ tells of-rx-errors 1 255
+    -- larger numbers change nothing
+    ∷ counts 0 65536 gives line 1 43 no-answer [] 1 blank
+    ∷ counts 65536 0 gives line 1 43 no-answer [] 1 blank
+    ∷ tells of-tx-errors 1 0
+    -- bus-off from active is no entering of passive; the mark stands, then the second one, until STARTED
+    ∷ counts 0 0 gives line 0 0 no-answer [] 1 blank
+    ∷ counts 256 0 gives line 0 0 no-answer [] 1 blank
+    ∷ tells of-error-state 1 2
+    ∷ tells of-tx-errors 1 255
+    ∷ counts 0 0 gives line 1 37 no-answer [] 1 blank
+    ∷ bus-off-poll gives line 0 0 no-answer (words-are 4 0 0 0 ∷ []) 2 blank
+    ∷ tells of-error-state 2 2
+    ∷ tells of-tx-errors 2 255
+    ∷ ask STARTED gives line 0 0 no-answer [] 2 blank
+    ∷ mode-poll gives line 0 0 no-answer (words-are 3 0 1 0 ∷ []) 1 blank
+    ∷ tells of-error-state 1 0
+    ∷ tells of-tx-errors 1 0
+    ∷ counts 65535 0 gives line 0 0 no-answer [] 1 blank
+    ∷ tells of-error-state 1 2
+    ∷ []
+
 -- Played by the rules, each call of a table gives its line. The first memory has the right size and holds 0xAA everywhere, which Init
 -- clears.
 abbrev pub Played : List Row → Type 0
 Played rows = played rows (initial-state chip can-format) (replicate (ram-size chip) 0xAA) ≡ map (λ r. r .line) rows
 
 pub worked-lines : Played table
-unfolding played seen sheet K init-K write-to write-P5 ask sent bus-off arrived write-poll read-poll mode-poll bus-off-poll blank laid-down words-are line _gives_ table rising all-below list-below lowest-or better best-below big-endian number splice same-bytes words first-reason return-code configuration-of accepted-bytes core-valid valid judged state-gate sheet-gate full-gate init set-controller-mode write main-function-write main-function-read main-function-mode main-function-bus-off tx-complete bus-off-detected frame-arrived services.set-controller-mode polls.main-function-write polls.main-function-read polls.main-function-mode polls.main-function-bus-off visit-all turn-all events.tx-complete events.bus-off-detected events.best-object next-length lengths-below object-bytes
+unfolding played seen sheet K init-K write-to write-P5 ask sent bus-off arrived write-poll read-poll mode-poll bus-off-poll blank laid-down words-are line _gives_ table rising all-below list-below lowest-or better best-below big-endian number splice same-bytes words first-reason return-code configuration-of accepted-bytes core-valid valid judged state-gate sheet-gate full-gate init set-controller-mode write main-function-write main-function-read main-function-mode main-function-bus-off tx-complete bus-off-detected frame-arrived services.set-controller-mode polls.main-function-write polls.main-function-read polls.main-function-mode polls.main-function-bus-off visit-all turn-all errors-all events.tx-complete events.bus-off-detected events.best-object next-length lengths-below object-bytes
 worked-lines = refl
 
 pub mixed-lines : Played mixed
-unfolding played seen sheet three-senders init-three write-to ask sent bus-off write-poll mode-poll bus-off-poll blank laid-down words-are line _gives_ sent-and-unsent mixed rising all-below list-below lowest-or better best-below big-endian number splice same-bytes words first-reason return-code configuration-of accepted-bytes core-valid valid judged state-gate sheet-gate full-gate init set-controller-mode write main-function-write main-function-read main-function-mode main-function-bus-off tx-complete bus-off-detected frame-arrived services.set-controller-mode polls.main-function-write polls.main-function-read polls.main-function-mode polls.main-function-bus-off visit-all turn-all events.tx-complete events.bus-off-detected events.best-object next-length lengths-below object-bytes
+unfolding played seen sheet three-senders init-three write-to ask sent bus-off write-poll mode-poll bus-off-poll blank laid-down words-are line _gives_ sent-and-unsent mixed rising all-below list-below lowest-or better best-below big-endian number splice same-bytes words first-reason return-code configuration-of accepted-bytes core-valid valid judged state-gate sheet-gate full-gate init set-controller-mode write main-function-write main-function-read main-function-mode main-function-bus-off tx-complete bus-off-detected frame-arrived services.set-controller-mode polls.main-function-write polls.main-function-read polls.main-function-mode polls.main-function-bus-off visit-all turn-all errors-all events.tx-complete events.bus-off-detected events.best-object next-length lengths-below object-bytes
 mixed-lines = refl
+
+pub threshold-lines : Played thresholds
+unfolding played seen sheet K init-K ask counts question tells mode-poll bus-off-poll blank words-are line _gives_ thresholds rising all-below list-below lowest-or better best-below big-endian number splice same-bytes words first-reason return-code configuration-of accepted-bytes core-valid valid judged state-gate sheet-gate full-gate init set-controller-mode main-function-mode main-function-bus-off errors-counted ask-controller services.set-controller-mode services.ask-controller polls.main-function-mode polls.main-function-bus-off visit-all turn-all errors-all events.errors-counted
+threshold-lines = refl

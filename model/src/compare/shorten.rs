@@ -16,7 +16,9 @@ pub fn simpler(line: &[u8]) -> Vec<Vec<u8>> {
     lines.extend(gathered(&words));
     lines.extend(cut(text));
     for place in 1..words.len().min(REPLACED) {
-        for simple in replacements(words[place]) {
+        let is_count = words[0] == b"errors" && place > 1;
+        let counts = if is_count { smaller_counts(words[place]) } else { Vec::new() };
+        for simple in replacements(words[place]).into_iter().chain(counts) {
             let mut words = words.clone();
             words[place] = &simple;
             lines.push(joined(&words));
@@ -73,6 +75,13 @@ fn replacements(word: &[u8]) -> Vec<Vec<u8>> {
     words
 }
 
+/// The smallest counts above each limit, where the word is a larger one.
+fn smaller_counts(word: &[u8]) -> Vec<Vec<u8>> {
+    let count = script::number(word).unwrap_or(0);
+    let smaller = [128, 256, 65_536].into_iter().filter(|&limit| limit < count);
+    smaller.map(|limit: u32| limit.to_string().into_bytes()).collect()
+}
+
 #[cfg(test)]
 mod tests {
     use super::*;
@@ -118,19 +127,35 @@ mod tests {
     }
 
     #[test]
+    fn counts_stay_above_a_limit() {
+        let lines = simpler_than("errors 3 200 0x11000\n");
+        for line in ["errors 3 128 0x11000\n", "errors 3 200 128\n", "errors 3 200 65536\n"] {
+            assert!(lines.contains(&line.to_string()), "{line:?}");
+        }
+        assert!(!lines.contains(&"errors 3 256 0x11000\n".to_string()));
+        assert!(!lines.iter().any(|line| line.starts_with("errors 128")), "no controller");
+        let others = simpler_than("errors 0 128 0\n");
+        assert!(!others.iter().any(|line| line.starts_with("errors 0 128 1")), "{others:?}");
+    }
+
+    #[test]
     fn trying_them_comes_to_an_end() {
         for pick in 0..20 {
-            let mut line = b"\twrite 0x1F 65535 9fffffff 00FF 11 -0 22 \t# x\r".to_vec();
-            let mut steps = 0;
-            loop {
-                let mut lines = simpler(&line);
-                if lines.is_empty() {
-                    break;
-                }
-                line = lines.swap_remove(pick % lines.len());
-                steps += 1;
-                assert!(steps < 100, "still {line:?}");
-            }
+            comes_to_an_end(b"\twrite 0x1F 65535 9fffffff 00FF 11 -0 22 \t# x\r", pick);
+            comes_to_an_end(b"errors 0x3 0x11000,65537#", pick);
         }
+    }
+
+    /// Puts a simpler line in place of the line, again and again, the one at `pick`.
+    fn comes_to_an_end(line: &[u8], pick: usize) {
+        let mut line = line.to_vec();
+        for _ in 0..100 {
+            let mut lines = simpler(&line);
+            if lines.is_empty() {
+                return;
+            }
+            line = lines.swap_remove(pick % lines.len());
+        }
+        panic!("still {line:?}");
     }
 }

@@ -19,11 +19,26 @@ fn object(rng: &mut Rng, raw: &Raw, receiving: bool) -> Option<usize> {
 }
 
 /// One of the configured controllers.
-fn controller(rng: &mut Rng, raw: &Raw) -> usize {
+pub(super) fn controller(rng: &mut Rng, raw: &Raw) -> usize {
     rng.below(raw.controller_count as usize)
 }
 
-/// A controller's place with one number that is not zero.
+/// Any controller's place before Init.
+pub(super) fn rest_controller<'a>(rng: &mut Rng, raw: &'a mut Raw) -> &'a mut RawController {
+    *raw = Raw::default();
+    &mut raw.controllers[rng.below(CONTROLLERS)]
+}
+
+/// The place of a controller that is not configured.
+pub(super) fn spare_controller<'a>(
+    rng: &mut Rng,
+    raw: &'a mut Raw,
+) -> Option<&'a mut RawController> {
+    let c = place(rng, CONTROLLERS, |c| raw.controller_count as usize <= c)?;
+    Some(&mut raw.controllers[c])
+}
+
+/// A controller's place with a mode, a request or the off-bus mark, and nothing else.
 fn used_controller(rng: &mut Rng) -> RawController {
     let rest = RawController::default();
     match rng.below(3) {
@@ -74,8 +89,7 @@ pub fn uninitialised_count(rng: &mut Rng, raw: &mut Raw) -> Option<()> {
 }
 
 pub fn uninitialised_controller(rng: &mut Rng, raw: &mut Raw) -> Option<()> {
-    *raw = Raw::default();
-    raw.controllers[rng.below(CONTROLLERS)] = used_controller(rng);
+    *rest_controller(rng, raw) = used_controller(rng);
     Some(())
 }
 
@@ -314,8 +328,7 @@ pub fn full_sending(rng: &mut Rng, raw: &mut Raw) -> Option<()> {
 }
 
 pub fn unused_controller(rng: &mut Rng, raw: &mut Raw) -> Option<()> {
-    let c = place(rng, CONTROLLERS, |c| raw.controller_count as usize <= c)?;
-    raw.controllers[c] = used_controller(rng);
+    *spare_controller(rng, raw)? = used_controller(rng);
     Some(())
 }
 

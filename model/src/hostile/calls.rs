@@ -2,10 +2,10 @@
 
 use super::case::Case;
 use super::raw::Raw;
+use crate::error_state::ErrorCounts;
 use crate::limits::{MEMORY_BYTES, OBJECTS, SHEET_WORDS};
-use crate::nights::configs;
-use crate::nights::frames;
 use crate::nights::rng::Rng;
+use crate::nights::{configs, counts, frames};
 
 /// The kinds of call, by the number that a case has for them.
 pub const INIT: u8 = 0;
@@ -21,20 +21,47 @@ pub const SENT: u8 = 9;
 pub const BUS_OFF: u8 = 10;
 pub const ARRIVED: u8 = 11;
 pub const NEXT: u8 = 12;
+pub const ERRORS: u8 = 13;
+pub const ERROR_STATE: u8 = 14;
+pub const RECEIVE_ERRORS: u8 = 15;
+pub const TRANSMIT_ERRORS: u8 = 16;
+
+/// How many kinds there are.
+const KINDS: usize = 17;
 
 /// A case of this state with a random call.
 pub fn case(rng: &mut Rng, raw: Raw) -> Case {
-    let kind = rng.below(usize::from(NEXT) + 1) as u8;
+    let kind = rng.below(KINDS) as u8;
     let identifier = identifier(rng, &raw);
+    let a = place(rng, &raw, kind);
+    let (b, c) = match kind {
+        SET => (rng.below(5) as u32, identifier),
+        ERRORS => {
+            let ErrorCounts { transmit, receive } = error_counts(rng, &raw, a);
+            (transmit, receive)
+        }
+        _ => (frames::handle(rng).into(), identifier),
+    };
     Case {
         kind,
-        a: place(rng, &raw, kind),
-        b: if kind == SET { rng.below(5) as u32 } else { frames::handle(rng).into() },
-        c: identifier,
+        a,
+        b,
+        c,
         data: data(rng, kind, identifier),
         sheet: sheet(rng),
         memory: memory(rng),
         raw,
+    }
+}
+
+/// Mostly counts that can be set; at times those that the controller has already.
+fn error_counts(rng: &mut Rng, raw: &Raw, controller: u32) -> ErrorCounts {
+    let present = raw.controllers.get(controller as usize).map(|place| place.errors);
+    match (rng.below(8), present) {
+        (0, _) => counts::refused(rng),
+        (1, Some(present)) => present,
+        (2 | 3, _) => counts::leaving(rng),
+        _ => counts::on_bus(rng),
     }
 }
 

@@ -3,6 +3,7 @@
 use super::calls::*;
 use super::raw::Raw;
 use crate::bench::{play_call, Answer, Played};
+use crate::error_state::ErrorCounts;
 use crate::identifier::Identifier;
 use crate::limits::RECORD_WORDS;
 use crate::nights::frames::hex;
@@ -39,8 +40,7 @@ impl Case {
     /// What the program is to print, without the number of the line.
     pub fn expected(&self) -> String {
         let Some(before) = self.raw.sound() else {
-            let answer = if self.kind == GET { Answer::Mode(0) } else { Answer::None };
-            return line(1, 41, answer, 0, [true; 3]);
+            return line(1, 41, self.answer_of_a_no(), 0, [true; 3]);
         };
         let (memory, sheet) = (pattern_bytes(self.memory), pattern_words(self.sheet));
         let (mut state, mut memory_after, mut sheet_after) =
@@ -52,6 +52,16 @@ impl Case {
         let count = records.len() / RECORD_WORDS;
         let same = [state == before, memory_after == memory, sheet_after == sheet];
         line(code, reason, answer, count, same)
+    }
+
+    /// What the call answers with every no.
+    fn answer_of_a_no(&self) -> Answer {
+        match self.kind {
+            GET => Answer::Mode(0),
+            ERROR_STATE => Answer::ErrorState(0),
+            RECEIVE_ERRORS | TRANSMIT_ERRORS => Answer::ErrorCount(0),
+            _ => Answer::None,
+        }
     }
 
     /// The call as the model takes it.
@@ -71,6 +81,13 @@ impl Case {
             SENT => Call::Sent { object },
             BUS_OFF => Call::BusOff { controller },
             NEXT => Call::Next { controller },
+            ERRORS => {
+                let counts = ErrorCounts { transmit: self.b, receive: self.c };
+                Call::Errors { controller, counts }
+            }
+            ERROR_STATE => Call::ErrorState { controller },
+            RECEIVE_ERRORS => Call::ReceiveErrors { controller },
+            TRANSMIT_ERRORS => Call::TransmitErrors { controller },
             _ => Call::Arrived { controller, identifier, data },
         }
     }

@@ -4,6 +4,7 @@
 mod breaks;
 mod calls;
 mod case;
+mod error_breaks;
 mod raw;
 mod rules;
 mod states;
@@ -132,9 +133,13 @@ impl fmt::Display for Tally {
 #[cfg(test)]
 mod tests {
     use super::*;
+    use crate::error_state::ErrorCounts;
 
-    /// The bytes of a case before those of its call, as `crates/hostile/src/case.rt` has them.
-    const STATE_BYTES: usize = 1 + 4 + 4 + 4 * 3 + 32 * 13 + 32 * 3;
+    /// Where controllers and objects begin in the bytes of a case, and how many bytes
+    /// come before those of its call, as `crates/hostile/src/case.rt` has them.
+    const CONTROLLERS_AT: usize = 1 + 4 + 4;
+    const OBJECTS_AT: usize = CONTROLLERS_AT + 4 * 12;
+    const STATE_BYTES: usize = OBJECTS_AT + 32 * 13 + 32 * 3;
 
     #[test]
     fn cases_are_laid_out_as_the_program_reads_them() {
@@ -143,8 +148,17 @@ mod tests {
             let word = case.word();
             assert_eq!(word.len(), 2 * (STATE_BYTES + 21 + case.data.len()));
             assert_eq!(word[2 * STATE_BYTES..][..2], format!("{:02x}", case.kind));
+            for (controller, raw) in case.raw.controllers.iter().enumerate() {
+                let at = 2 * (CONTROLLERS_AT + 12 * controller);
+                let (off_bus, recovering) = (u8::from(raw.off_bus), u8::from(raw.recovering));
+                let ErrorCounts { transmit, receive } = raw.errors;
+                let (mode, request) = (raw.mode, raw.request);
+                let marks = format!("{mode:02x}{request:02x}{off_bus:02x}{recovering:02x}");
+                let expected = format!("{marks}{transmit:08x}{receive:08x}");
+                assert_eq!(word[at..][..24], expected, "controller {controller}");
+            }
             for (object, raw) in case.raw.objects.iter().enumerate() {
-                let at = 2 * (21 + 13 * object);
+                let at = 2 * (OBJECTS_AT + 13 * object);
                 let (receiving, pool) = (u8::from(raw.receiving), raw.pool);
                 let expected = format!("{:02x}{receiving:02x}{pool:02x}", raw.controller);
                 assert_eq!(word[at..][..6], expected, "object {object}");
@@ -170,6 +184,51 @@ mod tests {
             assert!(met.contains(&reason), "{reason} is not met: {met:?}");
         }
         assert!(!met.contains(&41), "a sound state is not unsound");
+    }
+
+    #[test]
+    fn error_counts_on_sound_states_meet_every_reason() {
+        let met: Vec<u32> = answers(calls::ERRORS).iter().map(|(reason, _)| *reason).collect();
+        for reason in [0, 4, 5, 32, 35, 37, 43] {
+            assert!(met.contains(&reason), "{reason} is not met: {met:?}");
+        }
+        assert!(!met.contains(&41), "a sound state is not unsound");
+        // A record is written or not, and the state changes or stays with the same counts.
+        let cases = (0..6000).step_by(3).map(|number| make(1, number));
+        let events = cases.filter(|case| case.kind == calls::ERRORS);
+        let lines: Vec<String> = events.map(|case| case.expected()).collect();
+        for line in
+            ["0 0 - 1 changed same changed", "0 0 - 0 changed same same", "0 0 - 0 same same same"]
+        {
+            assert!(lines.iter().any(|met| met == line), "{line}");
+        }
+    }
+
+    #[test]
+    fn questions_about_errors_meet_every_answer() {
+        for (kind, some) in [
+            (calls::ERROR_STATE, &["0", "1", "2"][..]),
+            (calls::RECEIVE_ERRORS, &["0", "127", "128", "255"]),
+            (calls::TRANSMIT_ERRORS, &["0", "127", "128", "255"]),
+        ] {
+            let met = answers(kind);
+            for reason in [4, 5, 32] {
+                assert!(met.contains(&(reason, "0".to_string())), "{kind}: {reason} is not met");
+            }
+            for answer in some {
+                assert!(met.contains(&(0, answer.to_string())), "{kind}: {answer} is not met");
+            }
+        }
+    }
+
+    #[test]
+    fn a_state_that_is_not_sound_answers_0_to_every_question() {
+        for number in (1..3000).step_by(3) {
+            let case = make(1, number);
+            let question = matches!(case.kind, calls::GET | 14..=16);
+            let answer = if question { "0" } else { "-" };
+            assert_eq!(case.expected(), format!("1 41 {answer} 0 same same same"));
+        }
     }
 
     #[test]

@@ -1,6 +1,7 @@
 //! A driver state as raw numbers: anything that a caller can hand in.
 
 use crate::config::{Config, Kind, ObjectConfig};
+use crate::error_state::ErrorCounts;
 use crate::limits::{CONTROLLERS, OBJECTS};
 use crate::mode::Mode;
 use crate::state::{ControllerPlace, ObjectPlace, State};
@@ -12,6 +13,9 @@ pub struct RawController {
     /// The mode asked for, 0 for none.
     pub request: u8,
     pub off_bus: bool,
+    /// The second mark.
+    pub recovering: bool,
+    pub errors: ErrorCounts,
 }
 
 /// An object's configuration.
@@ -89,7 +93,10 @@ impl Raw {
         out.extend(self.controller_count.to_be_bytes());
         out.extend(self.object_count.to_be_bytes());
         for place in &self.controllers {
-            out.extend([place.mode, place.request, place.off_bus.into()]);
+            out.extend([place.mode, place.request]);
+            out.extend([place.off_bus, place.recovering].map(u8::from));
+            out.extend(place.errors.transmit.to_be_bytes());
+            out.extend(place.errors.receive.to_be_bytes());
         }
         for object in &self.objects {
             out.extend([object.controller, object.receiving.into(), object.pool]);
@@ -108,6 +115,8 @@ fn raw_controller(place: ControllerPlace) -> RawController {
         mode: place.mode as u8,
         request: place.request.map_or(0, |wish| wish as u8),
         off_bus: place.off_bus,
+        recovering: place.recovering,
+        errors: place.errors,
     }
 }
 
@@ -144,5 +153,6 @@ fn controller_place(controller: &RawController) -> Option<ControllerPlace> {
         0 => None,
         number => Some(Mode::requested(number.into())?),
     };
-    Some(ControllerPlace { mode, request, off_bus: controller.off_bus })
+    let &RawController { off_bus, recovering, errors, .. } = controller;
+    Some(ControllerPlace { mode, request, off_bus, recovering, errors })
 }

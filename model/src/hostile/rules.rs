@@ -1,12 +1,13 @@
 //! The rules of a sound state by name, and states that break one of them.
 
 use super::breaks::*;
+use super::error_breaks::*;
 use super::raw::Raw;
 use super::states;
 use crate::nights::rng::Rng;
 
 /// Breaks a rule in a state, or finds that this state has no place for it.
-type Break = fn(&mut Rng, &mut Raw) -> Option<()>;
+pub type Break = fn(&mut Rng, &mut Raw) -> Option<()>;
 
 /// A rule of a sound state.
 pub struct Rule {
@@ -32,10 +33,13 @@ const fn rule(wrong: &'static str, breaks: Break) -> Rule {
 }
 
 /// Every rule.
-pub const RULES: [Rule; 33] = [
+pub const RULES: [Rule; 43] = [
     rule("uninitialised, but configured", uninitialised),
     rule("uninitialised, but a count is not zero", uninitialised_count),
     rule("uninitialised, but a controller is not at rest", uninitialised_controller),
+    rule("uninitialised, but a second mark stands", uninitialised_second_mark),
+    rule("uninitialised, but a transmit count is not zero", uninitialised_transmit),
+    rule("uninitialised, but a receive count is not zero", uninitialised_receive),
     rule("uninitialised, but an object's configuration is not at rest", uninitialised_object),
     rule("uninitialised, but an object is not at rest", uninitialised_mailbox),
     rule("initialised with no controller", no_controller),
@@ -60,11 +64,18 @@ pub const RULES: [Rule; 33] = [
     rule("a request that is not permitted", request),
     rule("a request above 3", request_unknown),
     rule("a mark on a controller that is not STARTED", mark),
+    rule("a second mark on a STARTED controller", second_mark),
+    rule("a transmit count above 65,535", transmit_too_large),
+    rule("a receive count above 65,535", receive_too_large),
+    rule("a transmit count above 255 without a mark", transmit_without_mark),
     rule("occupied on a receiving object", occupied_receiving),
     rule("occupied on a controller that is not STARTED", occupied_not_started),
     rule("gone, but not occupied", gone_alone),
     rule("full on a sending object", full_sending),
     rule("an unused controller not at rest", unused_controller),
+    rule("a second mark on an unused controller", unused_second_mark),
+    rule("a transmit count on an unused controller", unused_transmit),
+    rule("a receive count on an unused controller", unused_receive),
     rule("an unused object not at rest", unused_object),
 ];
 

@@ -2,9 +2,10 @@
 
 use super::raw::{Raw, RawController, RawObject};
 use crate::config::{Config, Kind};
+use crate::error_state::ErrorCounts;
 use crate::mode::Mode;
-use crate::nights::configs;
 use crate::nights::rng::Rng;
+use crate::nights::{configs, counts};
 use crate::state::{ControllerPlace, ObjectPlace, State};
 
 /// A sound state, now and then the one at rest.
@@ -33,10 +34,19 @@ pub fn configured(rng: &mut Rng) -> Raw {
 fn controller(rng: &mut Rng) -> ControllerPlace {
     let mode = rng.pick([Mode::Started, Mode::Started, Mode::Stopped, Mode::Sleep]);
     let wish = rng.pick([Mode::Started, Mode::Stopped, Mode::Sleep]);
-    ControllerPlace {
-        mode,
-        request: Some(wish).filter(|&wish| mode.permits(wish) && rng.percent(50)),
-        off_bus: mode == Mode::Started && rng.percent(25),
+    let request = Some(wish).filter(|&wish| mode.permits(wish) && rng.percent(50));
+    let started = mode == Mode::Started;
+    let (off_bus, recovering) = (started && rng.percent(25), !started && rng.percent(40));
+    let errors = if off_bus || recovering { marked(rng) } else { counts::on_bus(rng) };
+    ControllerPlace { mode, request, off_bus, recovering, errors }
+}
+
+/// The counts of a controller with a mark: any, for a bus-off event keeps what there was.
+fn marked(rng: &mut Rng) -> ErrorCounts {
+    if rng.percent(60) {
+        counts::leaving(rng)
+    } else {
+        counts::on_bus(rng)
     }
 }
 
@@ -61,6 +71,8 @@ pub fn random(rng: &mut Rng) -> Raw {
         mode: number(rng, 5) as u8,
         request: number(rng, 5) as u8,
         off_bus: rng.percent(30),
+        recovering: rng.percent(30),
+        errors: ErrorCounts { transmit: number(rng, 300), receive: number(rng, 300) },
     });
     raw.objects.fill_with(|| random_object(rng));
     raw.mailboxes.fill_with(|| ObjectPlace {

@@ -26,11 +26,14 @@ enum Action {
     Next,
     BusOff,
     CutShort,
+    Errors,
+    AskErrors,
+    Trouble,
     Look,
     BadMoment,
 }
 
-const ACTIONS: [(usize, Action); 14] = [
+const ACTIONS: [(usize, Action); 17] = [
     (240, Action::Write),
     (170, Action::Sent),
     (190, Action::Arrived),
@@ -43,6 +46,9 @@ const ACTIONS: [(usize, Action); 14] = [
     (60, Action::Next),
     (6, Action::BusOff),
     (12, Action::CutShort),
+    (25, Action::Errors),
+    (45, Action::AskErrors),
+    (10, Action::Trouble),
     (40, Action::Look),
     (30, Action::BadMoment),
 ];
@@ -89,13 +95,15 @@ impl Maker {
         if self.rng.percent(70) {
             return self.init();
         }
-        match self.rng.below(7) {
+        match self.rng.below(9) {
             0 => "deinit".to_string(),
             1 => format!("get {}", self.rng.below(4)),
             2 => format!("set {} STARTED", self.rng.below(4)),
             3 => format!("poll {}", self.rng.pick(["write", "read", "mode", "busoff"])),
             4 => format!("sent {}", self.rng.below(32)),
             5 => format!("next {}", self.rng.below(4)),
+            6 => self.errors_anywhere(),
+            7 => self.question_anywhere(),
             _ => self.look(),
         }
     }
@@ -182,6 +190,9 @@ impl Maker {
             Action::Next => self.next_to_send(),
             Action::BusOff => self.bus_off(),
             Action::CutShort => self.cut_short(),
+            Action::Errors => self.errors_on_bus(),
+            Action::AskErrors => self.ask_errors(),
+            Action::Trouble => self.trouble(),
             Action::Look => Some(self.look()),
             Action::BadMoment => Some(self.bad_moment()),
         }
@@ -203,7 +214,7 @@ impl Maker {
     }
 
     /// The configured controllers for which `test` holds.
-    fn controllers_where(&self, test: impl Fn(&ControllerPlace) -> bool) -> Vec<u32> {
+    pub(super) fn controllers_where(&self, test: impl Fn(&ControllerPlace) -> bool) -> Vec<u32> {
         let state = self.state();
         let places = state.controllers[..state.config.controllers()].iter().enumerate();
         places.filter(|(_, place)| test(place)).map(|(number, _)| number as u32).collect()
@@ -362,11 +373,6 @@ impl Maker {
         Some(format!("next {}", number_word(&mut self.rng, controller)))
     }
 
-    fn bus_off(&mut self) -> Option<String> {
-        let running = self.controllers_where(|place| place.mode == Mode::Started && !place.off_bus);
-        Some(format!("busoff {}", self.rng.choose(&running)?))
-    }
-
     /// Frames leave, and before any write poll their controller is stopped or goes
     /// off the bus. At times a frame is written in between; mostly the controller is
     /// started again. The first of the lines.
@@ -377,7 +383,7 @@ impl Maker {
         let (cut, poll) = if self.rng.percent(40) {
             (format!("set {controller} STOPPED"), "poll mode")
         } else {
-            (format!("busoff {controller}"), "poll busoff")
+            (self.off_the_bus(controller.into()), "poll busoff")
         };
         let mut lines = self.leave(controller);
         lines.push(cut);
@@ -431,11 +437,11 @@ impl Maker {
 
     /// A sensible call at a moment when it may well be refused: a restart in
     /// mid-flight, a write to a full pool or to a member that does not name it, a
-    /// sent or bus-off out of turn.
+    /// sent, a bus-off or error counts out of turn.
     fn bad_moment(&mut self) -> String {
         let object = self.rng.below(32) as u32;
         let controller = self.rng.below(4);
-        match self.rng.below(8) {
+        match self.rng.below(9) {
             0 => self.init(),
             1 => "deinit".to_string(),
             2 => format!("set {controller} {}", self.rng.pick(["STARTED", "SLEEP", "STOPPED"])),
@@ -443,6 +449,7 @@ impl Maker {
             4 => format!("sent {object}"),
             5 => format!("arrived {controller} 120 {}", random_bytes_words(&mut self.rng, 8)),
             6 => self.fill_pool().unwrap_or_else(|| "poll write".to_string()),
+            7 => self.errors_anywhere(),
             _ => {
                 let named = if self.rng.percent(50) { object } else { self.lowest(object) };
                 self.write_to(named).unwrap_or_else(|| format!("sent {object}"))

@@ -5,11 +5,13 @@
 
 mod calm;
 pub(crate) mod configs;
+pub(crate) mod counts;
 pub(crate) mod frames;
 mod pools;
 pub(crate) mod rng;
 mod said;
 mod strange;
+mod trouble;
 mod wild;
 
 use std::collections::VecDeque;

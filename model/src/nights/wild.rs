@@ -4,7 +4,7 @@ use super::frames::{
     bad_identifier, good_identifier, identifier_word, number_word, random_bytes_words,
 };
 use super::strange::STRANGE_LINES;
-use super::{configs, said, Maker};
+use super::{configs, counts, said, Maker};
 use crate::limits::{MEMORY_BYTES, SHEET_WORDS};
 use crate::lines::LONGEST_LINE;
 
@@ -136,7 +136,7 @@ impl Maker {
             let lines = said::crowd(&mut self.rng);
             return self.first_of(lines);
         }
-        match self.rng.below(27) {
+        match self.rng.below(31) {
             0 => self.init_with_any(),
             1 if self.rng.percent(50) => "deinit".to_string(),
             1 => self.init_with_any(),
@@ -156,6 +156,8 @@ impl Maker {
             24 if self.rng.percent(60) => self.next_to_send().unwrap_or("next 0".to_string()),
             24 => format!("next {}", self.any_controller()),
             25 => self.any_config(),
+            26 | 27 => self.any_errors(),
+            28 | 29 => self.any_question(),
             _ => "state".to_string(),
         }
     }
@@ -199,6 +201,25 @@ impl Maker {
         };
         let version = number_word(&mut self.rng, version);
         format!("config {version} {}", number_word(&mut self.rng, room as u32))
+    }
+
+    /// Error counts of any controller, now and then too large.
+    fn any_errors(&mut self) -> String {
+        let counts = match self.rng.below(8) {
+            0 => counts::refused(&mut self.rng),
+            1 | 2 => counts::leaving(&mut self.rng),
+            _ => counts::on_bus(&mut self.rng),
+        };
+        let controller = self.any_controller();
+        let transmit = number_word(&mut self.rng, counts.transmit);
+        let receive = number_word(&mut self.rng, counts.receive);
+        format!("errors {controller} {transmit} {receive}")
+    }
+
+    /// A question about the errors of any controller.
+    fn any_question(&mut self) -> String {
+        let name = self.rng.pick(["errorstate", "errorstate", "rxerrors", "txerrors"]);
+        format!("{name} {}", self.any_controller())
     }
 
     /// Any length from 0 to 70 and any identifier, good or not; often to an object

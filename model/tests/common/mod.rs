@@ -1,6 +1,8 @@
 //! Helpers shared by the tests: playing scripts and reading the answers.
 #![allow(dead_code)]
 
+pub mod printed;
+
 /// The paper's configuration K.
 pub const K: &str = "init 4348420001010200\
                      000040CC0000000000000000\

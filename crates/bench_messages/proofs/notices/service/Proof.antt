@@ -15,7 +15,8 @@ same-length c = search needs
 
 returns : tie.Need-returns
 returns c =
-    rw (eq-eqb (c .before .before .before .before .before .before .before .args .number) 0 (c .before .before .before .before .before .if1 .taken)) (c .before .before .say .ensures)
+    let number = c .before .before .before .before .before .before .before .args .number in
+    rw (eq-eqb number 0 (c .before .before .before .before .before .if1 .taken)) (c .before .before .say .ensures)
 
 slice-aggregate-say-2 : tie.Need-slice-aggregate-say-2
 slice-aggregate-say-2 c = search needs
@@ -28,7 +29,8 @@ same-length-2 c = search needs
 
 returns-2 : tie.Need-returns-2
 returns-2 c =
-    rw (ne-eqb (c .before .before .before .before .before .before .before .before .args .number) 0 (c .before .before .before .before .before .before .if1 .left), eq-eqb (c .before .before .before .before .before .before .before .before .args .number) 3 (c .before .before .before .before .before .if2 .taken)) (c .before .before .say2 .ensures)
+    let number = c .before .before .before .before .before .before .before .before .args .number in
+    rw (ne-eqb number 0 (c .before .before .before .before .before .before .if1 .left), eq-eqb number 3 (c .before .before .before .before .before .if2 .taken)) (c .before .before .say2 .ensures)
 
 slice-aggregate-say-3 : tie.Need-slice-aggregate-say-3
 slice-aggregate-say-3 c = search needs
@@ -41,7 +43,8 @@ same-length-3 c = search needs
 
 returns-3 : tie.Need-returns-3
 returns-3 c =
-    rw (ne-eqb (c .before .before .before .before .before .before .before .before .before .args .number) 0 (c .before .before .before .before .before .before .before .if1 .left), ne-eqb (c .before .before .before .before .before .before .before .before .before .args .number) 3 (c .before .before .before .before .before .before .if2 .left), eq-eqb (c .before .before .before .before .before .before .before .before .before .args .number) 6 (c .before .before .before .before .before .if3 .taken)) (c .before .before .say3 .ensures)
+    let number = c .before .before .before .before .before .before .before .before .before .args .number in
+    rw (ne-eqb number 0 (c .before .before .before .before .before .before .before .if1 .left), ne-eqb number 3 (c .before .before .before .before .before .before .if2 .left), eq-eqb number 6 (c .before .before .before .before .before .if3 .taken)) (c .before .before .say3 .ensures)
 
 slice-aggregate-say-4 : tie.Need-slice-aggregate-say-4
 slice-aggregate-say-4 c = search needs
@@ -54,33 +57,19 @@ same-length-4 c = search needs
 
 returns-4 : tie.Need-returns-4
 returns-4 c =
-    rw (ne-eqb (c .before .before .before .before .before .before .before .before .before .before .args .number) 0 (c .before .before .before .before .before .before .before .before .if1 .left), ne-eqb (c .before .before .before .before .before .before .before .before .before .before .args .number) 3 (c .before .before .before .before .before .before .before .if2 .left), ne-eqb (c .before .before .before .before .before .before .before .before .before .before .args .number) 6 (c .before .before .before .before .before .before .if3 .left), eq-eqb (c .before .before .before .before .before .before .before .before .before .before .args .number) 16 (c .before .before .before .before .before .if4 .taken)) (c .before .before .say4 .ensures)
+    let number = c .before .before .before .before .before .before .before .before .before .before .args .number in
+    rw (ne-eqb number 0 (c .before .before .before .before .before .before .before .before .if1 .left), ne-eqb number 3 (c .before .before .before .before .before .before .before .if2 .left), ne-eqb number 6 (c .before .before .before .before .before .before .if3 .left), eq-eqb number 16 (c .before .before .before .before .before .if4 .taken)) (c .before .before .say4 .ensures)
 
-slice-aggregate-say-5 : tie.Need-slice-aggregate-say-5
-slice-aggregate-say-5 c = search needs
-
-say-requires-5 : tie.Need-say-requires-5
-say-requires-5 c κs = search needs
+question-requires : tie.Need-question-requires
+question-requires c κs = search needs
 
 same-length-5 : tie.Need-same-length-5
 same-length-5 c = search needs
 
 returns-5 : tie.Need-returns-5
 returns-5 c =
-    rw (ne-eqb (c .before .before .before .before .before .before .before .before .before .before .before .args .number) 0 (c .before .before .before .before .before .before .before .before .before .if1 .left), ne-eqb (c .before .before .before .before .before .before .before .before .before .before .before .args .number) 3 (c .before .before .before .before .before .before .before .before .if2 .left), ne-eqb (c .before .before .before .before .before .before .before .before .before .before .before .args .number) 6 (c .before .before .before .before .before .before .before .if3 .left), ne-eqb (c .before .before .before .before .before .before .before .before .before .before .before .args .number) 16 (c .before .before .before .before .before .before .if4 .left), eq-eqb (c .before .before .before .before .before .before .before .before .before .before .before .args .number) 18 (c .before .before .before .before .before .if5 .taken)) (c .before .before .say5 .ensures)
-
-slice-aggregate-say-6 : tie.Need-slice-aggregate-say-6
-slice-aggregate-say-6 c = search needs
-
-say-requires-6 : tie.Need-say-requires-6
-say-requires-6 c κs = search needs
-
-same-length-6 : tie.Need-same-length-6
-same-length-6 c = search needs
-
-returns-6 : tie.Need-returns-6
-returns-6 c =
-    rw (ne-eqb (c .before .before .before .before .before .before .before .before .before .before .before .args .number) 0 (c .before .before .before .before .before .before .before .before .before .if1 .left), ne-eqb (c .before .before .before .before .before .before .before .before .before .before .before .args .number) 3 (c .before .before .before .before .before .before .before .before .if2 .left), ne-eqb (c .before .before .before .before .before .before .before .before .before .before .before .args .number) 6 (c .before .before .before .before .before .before .before .if3 .left), ne-eqb (c .before .before .before .before .before .before .before .before .before .before .before .args .number) 16 (c .before .before .before .before .before .before .if4 .left), ne-eqb (c .before .before .before .before .before .before .before .before .before .before .before .args .number) 18 (c .before .before .before .before .before .if5 .left)) (c .before .before .say6 .ensures)
+    let number = c .before .before .before .before .before .before .before .before .before .args .number in
+    rw (ne-eqb number 0 (c .before .before .before .before .before .before .before .if1 .left), ne-eqb number 3 (c .before .before .before .before .before .before .if2 .left), ne-eqb number 6 (c .before .before .before .before .before .if3 .left), ne-eqb number 16 (c .before .before .before .before .if4 .left)) (c .before .before .question .ensures)
 
 pub service-spec : {M : Type 1} → statement M
 service-spec =
@@ -102,11 +91,6 @@ service-spec =
     say-requires-4
     same-length-4
     returns-4
-    slice-aggregate-say-5
-    say-requires-5
+    question-requires
     same-length-5
-    returns-5
-    slice-aggregate-say-6
-    say-requires-6
-    same-length-6
-    returns-6)
+    returns-5)

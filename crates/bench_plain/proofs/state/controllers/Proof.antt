@@ -18,14 +18,29 @@ limited-requires c κs = search needs
 loop-holds : tie.Need-loop-holds Inv-loop μ-loop
 loop-holds c = search needs
 
-element-copy-out-t13 : tie.Need-element-copy-out-t13 Inv-loop μ-loop
-element-copy-out-t13 c = search needs
+element-copy-out-t14 : tie.Need-element-copy-out-t14 Inv-loop μ-loop
+element-copy-out-t14 c = search needs
 
-element-copy-out-t16 : tie.Need-element-copy-out-t16 Inv-loop μ-loop
-element-copy-out-t16 c = search needs
+element-copy-out-t17 : tie.Need-element-copy-out-t17 Inv-loop μ-loop
+element-copy-out-t17 c = search needs
 
-element-copy-out-t10 : tie.Need-element-copy-out-t10 Inv-loop μ-loop
-element-copy-out-t10 c = search needs
+element-copy-out-t11 : tie.Need-element-copy-out-t11 Inv-loop μ-loop
+element-copy-out-t11 c = search needs
+
+element-copy-out-t11-2 : tie.Need-element-copy-out-t11-2 Inv-loop μ-loop
+element-copy-out-t11-2 c = search needs
+
+mul-t22 : tie.Need-mul-t22 Inv-loop μ-loop
+mul-t22 c = search needs
+
+element-copy-out-t25 : tie.Need-element-copy-out-t25 Inv-loop μ-loop
+element-copy-out-t25 c = search needs
+
+mul-t26 : tie.Need-mul-t26 Inv-loop μ-loop
+mul-t26 c = search needs
+
+element-copy-out-t29 : tie.Need-element-copy-out-t29 Inv-loop μ-loop
+element-copy-out-t29 c = search needs
 
 controller-requires : tie.Need-controller-requires Inv-loop μ-loop
 controller-requires c κs = search needs
@@ -53,9 +68,14 @@ controllers-spec =
     μ-loop
     limited-requires
     loop-holds
-    element-copy-out-t13
-    element-copy-out-t16
-    element-copy-out-t10
+    element-copy-out-t14
+    element-copy-out-t17
+    element-copy-out-t11
+    element-copy-out-t11-2
+    mul-t22
+    element-copy-out-t25
+    mul-t26
+    element-copy-out-t29
     controller-requires
     add-c
     loop-less

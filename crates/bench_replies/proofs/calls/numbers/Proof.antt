@@ -12,6 +12,9 @@ cast-object c = search needs
 cast-number : tie.Need-cast-number
 cast-number c = search needs
 
+cast-receive : tie.Need-cast-receive
+cast-receive c = search needs
+
 cast-identifier : tie.Need-cast-identifier
 cast-identifier c = search needs
 
@@ -53,6 +56,18 @@ enum-told-12 c = search needs
 
 enum-told-13 : tie.Need-enum-told-13
 enum-told-13 c = search needs
+
+enum-told-14 : tie.Need-enum-told-14
+enum-told-14 c = search needs
+
+enum-told-15 : tie.Need-enum-told-15
+enum-told-15 c = search needs
+
+enum-told-16 : tie.Need-enum-told-16
+enum-told-16 c = search needs
+
+enum-told-17 : tie.Need-enum-told-17
+enum-told-17 c = search needs
 
 returns : tie.Need-returns
 returns c =
@@ -106,6 +121,22 @@ returns-13 : tie.Need-returns-13
 returns-13 c =
     rw (c .enum-told13 .given .1)
 
+returns-14 : tie.Need-returns-14
+returns-14 c =
+    rw (c .enum-told14 .given .1)
+
+returns-15 : tie.Need-returns-15
+returns-15 c =
+    rw (c .enum-told15 .given .1)
+
+returns-16 : tie.Need-returns-16
+returns-16 c =
+    rw (c .enum-told16 .given .1)
+
+returns-17 : tie.Need-returns-17
+returns-17 c =
+    rw (c .enum-told17 .given .1)
+
 pub numbers-spec : {M : Type 1} → statement M
 numbers-spec =
     tie.close
@@ -113,6 +144,7 @@ numbers-spec =
     cast-controller
     cast-object
     cast-number
+    cast-receive
     cast-identifier
     enum-told
     enum-told-2
@@ -127,6 +159,10 @@ numbers-spec =
     enum-told-11
     enum-told-12
     enum-told-13
+    enum-told-14
+    enum-told-15
+    enum-told-16
+    enum-told-17
     returns
     returns-2
     returns-3
@@ -139,4 +175,8 @@ numbers-spec =
     returns-10
     returns-11
     returns-12
-    returns-13)
+    returns-13
+    returns-14
+    returns-15
+    returns-16
+    returns-17)

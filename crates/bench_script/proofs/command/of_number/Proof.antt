@@ -36,6 +36,15 @@ enum-told-8 c = search needs
 enum-told-9 : tie.Need-enum-told-9
 enum-told-9 c = search needs
 
+enum-told-10 : tie.Need-enum-told-10
+enum-told-10 c = search needs
+
+enum-told-11 : tie.Need-enum-told-11
+enum-told-11 c = search needs
+
+enum-told-12 : tie.Need-enum-told-12
+enum-told-12 c = search needs
+
 returns : tie.Need-returns
 returns c = rw (c .before .reading .given .1)
 
@@ -66,6 +75,15 @@ returns-9 c = rw (c .before .before .before .reading2 .given .1, c .enum-told8 .
 returns-10 : tie.Need-returns-10
 returns-10 c = rw (c .before .before .before .reading2 .given .1, c .enum-told9 .given .1)
 
+returns-11 : tie.Need-returns-11
+returns-11 c = rw (c .before .before .before .reading2 .given .1, c .enum-told10 .given .1)
+
+returns-12 : tie.Need-returns-12
+returns-12 c = rw (c .before .before .before .reading2 .given .1, c .enum-told11 .given .1)
+
+returns-13 : tie.Need-returns-13
+returns-13 c = rw (c .before .before .before .reading2 .given .1, c .enum-told12 .given .1)
+
 pub of-number-spec : {M : Type 1} → statement M
 of-number-spec =
     tie.close
@@ -81,6 +99,9 @@ of-number-spec =
     enum-told-7
     enum-told-8
     enum-told-9
+    enum-told-10
+    enum-told-11
+    enum-told-12
     returns
     returns-2
     returns-3
@@ -90,4 +111,7 @@ of-number-spec =
     returns-7
     returns-8
     returns-9
-    returns-10)
+    returns-10
+    returns-11
+    returns-12
+    returns-13)

@@ -129,9 +129,37 @@ slice-aggregate-named-or-18 c = search needs
 named-or-requires-18 : tie.Need-named-or-requires-18
 named-or-requires-18 c κs = search needs
 
+slice-aggregate-named-or-19 : tie.Need-slice-aggregate-named-or-19
+slice-aggregate-named-or-19 c = search needs
+
+named-or-requires-19 : tie.Need-named-or-requires-19
+named-or-requires-19 c κs = search needs
+
+slice-aggregate-named-or-20 : tie.Need-slice-aggregate-named-or-20
+slice-aggregate-named-or-20 c = search needs
+
+named-or-requires-20 : tie.Need-named-or-requires-20
+named-or-requires-20 c κs = search needs
+
+slice-aggregate-named-or-21 : tie.Need-slice-aggregate-named-or-21
+slice-aggregate-named-or-21 c = search needs
+
+named-or-requires-21 : tie.Need-named-or-requires-21
+named-or-requires-21 c κs = search needs
+
+slice-aggregate-named-or-22 : tie.Need-slice-aggregate-named-or-22
+slice-aggregate-named-or-22 c = search needs
+
+named-or-requires-22 : tie.Need-named-or-requires-22
+named-or-requires-22 c κs = search needs
+
 returns : tie.Need-returns
 returns c =
-    let c17 = c .before .before in
+    let c21 = c .before .before in
+    let c20 = c21 .before .before in
+    let c19 = c20 .before .before in
+    let c18 = c19 .before .before in
+    let c17 = c18 .before .before in
     let c16 = c17 .before .before in
     let c15 = c16 .before .before in
     let c14 = c15 .before .before in
@@ -149,7 +177,11 @@ returns c =
     let c2 = c3 .before .before in
     let c1 = c2 .before .before in
     among
-    (test (c .named-or18 .ensures)
+    (test (c .named-or22 .ensures)
+    (test (c21 .named-or21 .ensures)
+    (test (c20 .named-or20 .ensures)
+    (test (c19 .named-or19 .ensures)
+    (test (c18 .named-or18 .ensures)
     (test (c17 .named-or17 .ensures)
     (test (c16 .named-or16 .ensures)
     (test (c15 .named-or15 .ensures)
@@ -166,7 +198,7 @@ returns c =
     (test (c4 .named-or4 .ensures)
     (test (c3 .named-or3 .ensures)
     (test (c2 .named-or2 .ensures)
-    (test (c1 .named-or .ensures) none))))))))))))))))))
+    (test (c1 .named-or .ensures) none))))))))))))))))))))))
 
 pub name-of-spec : {M : Type 1} → statement M
 name-of-spec =
@@ -208,4 +240,12 @@ name-of-spec =
     named-or-requires-17
     slice-aggregate-named-or-18
     named-or-requires-18
+    slice-aggregate-named-or-19
+    named-or-requires-19
+    slice-aggregate-named-or-20
+    named-or-requires-20
+    slice-aggregate-named-or-21
+    named-or-requires-21
+    slice-aggregate-named-or-22
+    named-or-requires-22
     returns)

@@ -66,7 +66,7 @@ slice-aggregate-next-lent-4 : tie.Need-slice-aggregate-next-lent-4
 slice-aggregate-next-lent-4 c = search needs
 
 slice-aggregate-next-lent-5 : tie.Need-slice-aggregate-next-lent-5
-slice-aggregate-next-lent-5 c = search needs
+slice-aggregate-next-lent-5 c = sym (sized (c .before .before .before .before .before .before .before .before .before .before) .fulls)
 
 next-lent-requires : tie.Need-next-lent-requires
 next-lent-requires c κs =

@@ -28,7 +28,7 @@ slice-aggregate-arrive-lent-3 : tie.Need-slice-aggregate-arrive-lent-3
 slice-aggregate-arrive-lent-3 c = search needs
 
 slice-aggregate-arrive-lent-4 : tie.Need-slice-aggregate-arrive-lent-4
-slice-aggregate-arrive-lent-4 c = search needs
+slice-aggregate-arrive-lent-4 c = sym (sizes (c .before .before .before .before .before .before .before .before .before .before .before .before .before .before .before .before .before .before .before .before .before .args .state) _ (c .before .before .before .before .before .before .before .before .before .before .before .before .before .before .before .before .before .before .before .before .before .good .0) .owners)
 
 slice-aggregate-arrive-lent-5 : tie.Need-slice-aggregate-arrive-lent-5
 slice-aggregate-arrive-lent-5 c = sym (sizes (c .before .before .before .before .before .before .before .before .before .before .before .before .before .before .before .before .before .before .before .before .before .before .args .state) _ (c .before .before .before .before .before .before .before .before .before .before .before .before .before .before .before .before .before .before .before .before .before .before .good .0) .receivings)

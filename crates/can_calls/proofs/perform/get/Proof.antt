@@ -4,28 +4,28 @@ use Rattle.can_calls.proofs.Laws.{replied}
 use Rattle.can_calls.proofs.perform.get.Statement.{statement}
 use Rattle.can_calls.proofs.perform.get.Tie as tie
 
-get-controller-mode-requires : tie.Need-get-controller-mode-requires
-get-controller-mode-requires c κs = search needs
+ask-requires : tie.Need-ask-requires
+ask-requires c κs = search needs
 
-mode-verdict-requires : tie.Need-mode-verdict-requires
-mode-verdict-requires c κs = search needs
+question-verdict-requires : tie.Need-question-verdict-requires
+question-verdict-requires c κs = search needs
 
-mode-answer-requires : tie.Need-mode-answer-requires
-mode-answer-requires c κs = search needs
+question-answer-requires : tie.Need-question-answer-requires
+question-answer-requires c κs = search needs
 
 same-length : tie.Need-same-length
 same-length c = search needs
 
 returns : tie.Need-returns
 returns c =
-    replied (c .before .mode-verdict .ensures) (c .mode-answer .ensures) (c .before .before .before .before .before .get-controller-mode .ensures)
+    replied (c .before .question-verdict .ensures) (c .question-answer .ensures) (c .before .before .before .before .before .ask .ensures)
 
 pub get-spec : {M : Type 1} → statement M
 get-spec =
     tie.close
     (tie.spec
-    get-controller-mode-requires
-    mode-verdict-requires
-    mode-answer-requires
+    ask-requires
+    question-verdict-requires
+    question-answer-requires
     same-length
     returns)

@@ -12,11 +12,11 @@ use Rattle.can_calls.proofs.perform.perform.Tie as tie
 
 event-requires : tie.Need-event-requires
 event-requires c κs =
-    of-kind (c .before .before .before .before .before .before .args .request .function) EVENT (9 ∷ 10 ∷ 11 ∷ []) (c .before .before .match .keys1) refl
+    of-kind (c .before .before .before .before .before .before .args .request .function) EVENT (12 ∷ 13 ∷ 14 ∷ 15 ∷ []) (c .before .before .match .keys1) refl
 
 poll-requires : tie.Need-poll-requires
 poll-requires c κs =
-    of-kind (c .before .before .before .before .before .before .args .request .function) POLL (5 ∷ 6 ∷ 7 ∷ 8 ∷ []) (c .before .before .match .keys2) refl
+    of-kind (c .before .before .before .before .before .before .args .request .function) POLL (8 ∷ 9 ∷ 10 ∷ 11 ∷ []) (c .before .before .match .keys2) refl
 
 enum-told : tie.Need-enum-told
 enum-told c = search needs
@@ -26,7 +26,7 @@ next-requires c κs = search needs
 
 service-requires : tie.Need-service-requires
 service-requires c κs =
-    of-kind (c .before .before .before .before .before .before .args .request .function) SERVICE (0 ∷ 1 ∷ 2 ∷ 3 ∷ 4 ∷ []) (c .before .before .match .keys4) refl
+    of-kind (c .before .before .before .before .before .before .args .request .function) SERVICE (0 ∷ 1 ∷ 2 ∷ 3 ∷ 4 ∷ 5 ∷ 6 ∷ 7 ∷ []) (c .before .before .match .keys4) refl
 
 same-length : tie.Need-same-length
 same-length c = search needs

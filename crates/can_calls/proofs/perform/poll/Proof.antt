@@ -75,7 +75,7 @@ returns-4 : tie.Need-returns-4
 unfolding outcome-of
 returns-4 c =
     let start = c .before .before .before .before .before .before .before .before .before in
-    rw (only (start .args .request .function) POLL (0 ∷ 1 ∷ 2 ∷ 3 ∷ 4 ∷ 8 ∷ 9 ∷ 10 ∷ 11 ∷ 12 ∷ []) (c .before .before .before .before .before .match .keys4) 8 refl (start .pre))
+    rw (only (start .args .request .function) POLL (0 ∷ 1 ∷ 2 ∷ 3 ∷ 4 ∷ 5 ∷ 6 ∷ 7 ∷ 11 ∷ 12 ∷ 13 ∷ 14 ∷ 15 ∷ 16 ∷ []) (c .before .before .before .before .before .match .keys4) 11 refl (start .pre))
     (told (c .with-verdict4 .ensures) (c .before .before .before .main-function-bus-off .ensures))
 
 pub poll-spec : {M : Type 1} → statement M

@@ -18,7 +18,7 @@ returns c = search needs
 returns-2 : tie.Need-returns-2
 returns-2 c =
     let f = c .before .args .request .function in
-    sym (not-true (is-bus-off-poll f) (each (λ g. not (is-bus-off-poll g)) f (0 ∷ 1 ∷ 2 ∷ 3 ∷ 4 ∷ 5 ∷ 6 ∷ 7 ∷ 9 ∷ 10 ∷ 11 ∷ 12 ∷ []) (c .match .keys2) refl))
+    sym (not-true (is-bus-off-poll f) (each (λ g. not (is-bus-off-poll g)) f (0 ∷ 1 ∷ 2 ∷ 3 ∷ 4 ∷ 5 ∷ 6 ∷ 7 ∷ 8 ∷ 9 ∷ 10 ∷ 12 ∷ 13 ∷ 14 ∷ 15 ∷ 16 ∷ []) (c .match .keys2) refl))
 
 pub is-bus-off-poll-spec : {M : Type 1} → statement M
 is-bus-off-poll-spec = tie.close (tie.spec enum-told returns returns-2)

@@ -55,7 +55,7 @@ slice-aggregate-tx-complete-7 : tie.Need-slice-aggregate-tx-complete-7
 slice-aggregate-tx-complete-7 c = search needs
 
 slice-aggregate-tx-complete-8 : tie.Need-slice-aggregate-tx-complete-8
-slice-aggregate-tx-complete-8 c = search needs
+slice-aggregate-tx-complete-8 c = sym (sized (c .before .before .before .before .before .before .before .before .before .before .before .before .before .before .before .before) .fulls)
 
 tx-complete-requires : tie.Need-tx-complete-requires
 tx-complete-requires c κs =

@@ -1,5 +1,5 @@
 -- The gate is the rules', what it lets pass has room, and the core's poll is lifted to the state.
-use mathlib.Core.Path.{sym, _∙_}
+use mathlib.Core.Path.{refl, sym, _∙_}
 use native.Mathlib.Omega.{arith}
 use lib.ListN.{length}
 use Rattle.can_state.specs.View.{view}
@@ -35,16 +35,25 @@ slice-aggregate-poll-controllers-6 : tie.Need-slice-aggregate-poll-controllers-6
 slice-aggregate-poll-controllers-6 c = search needs
 
 slice-aggregate-poll-controllers-7 : tie.Need-slice-aggregate-poll-controllers-7
-slice-aggregate-poll-controllers-7 c = let start = c .before .before .before .before .before .before .before .before .before .before .before .before .before .before .before .before .before .before in sym (sizes (start .args .state) _ (start .good .1 .0) .fulls)
+slice-aggregate-poll-controllers-7 c = search needs
+
+slice-aggregate-poll-controllers-8 : tie.Need-slice-aggregate-poll-controllers-8
+slice-aggregate-poll-controllers-8 c = let start = c .before .before .before .before .before .before .before .before .before .before .before .before .before .before .before .before .before .before .before .before .before .before in sym (sizes (start .args .state) _ (start .good .1 .0) .pendings)
+
+slice-aggregate-poll-controllers-9 : tie.Need-slice-aggregate-poll-controllers-9
+slice-aggregate-poll-controllers-9 c = let start = c .before .before .before .before .before .before .before .before .before .before .before .before .before .before .before .before .before .before .before .before .before .before .before in sym (sizes (start .args .state) _ (start .good .1 .0) .dones)
+
+slice-aggregate-poll-controllers-10 : tie.Need-slice-aggregate-poll-controllers-10
+slice-aggregate-poll-controllers-10 c = let start = c .before .before .before .before .before .before .before .before .before .before .before .before .before .before .before .before .before .before .before .before .before .before .before .before in sym (sizes (start .args .state) _ (start .good .1 .0) .fulls)
 
 poll-controllers-requires : tie.Need-poll-controllers-requires
 poll-controllers-requires c κs =
-    let start = c .before .before .before .before .before .before .before .before .before .before .before .before .before .before .before .before .before .before .before in
+    let start = c .before .before .before .before .before .before .before .before .before .before .before .before .before .before .before .before .before .before .before .before .before .before .before .before .before in
     let a = start .args in
     let sized = sizes (a .state) _ (start .good .1 .0) in
-    let gate = full-gate-is (a .state) (c .before .before .before .before .before .before .before .before .before .before .before .before .before .before .before .before .valid .ensures) (length (a .sheet .now)) (a .ram .now) (c .before .before .before .before .before .before .before .before .before .before .before .before .before .before .before .full-gate .ensures) in (
-      (record { second = omega arith; third = omega arith }, record { second = omega arith; third = omega arith }),
-      (λ none. room-for-all sized (passed (a .state) (length (a .sheet .now)) (a .ram .now) (sym gate ∙ none))),
+    let gate = full-gate-is (a .state) (c .before .before .before .before .before .before .before .before .before .before .before .before .before .before .before .before .before .before .before .before .before .before .valid .ensures) (length (a .sheet .now)) (a .ram .now) (c .before .before .before .before .before .before .before .before .before .before .before .before .before .before .before .before .before .before .before .before .before .full-gate .ensures) in (
+      (record { second = omega arith; third = omega arith }, record { second = omega arith; third = omega arith }, record { second = omega arith; third = omega arith }),
+      (λ none. let room = passed (a .state) (length (a .sheet .now)) (a .ram .now) (sym gate ∙ none) in (let few = room .places .controllers in omega arith, room-for-all sized room)),
     )
 
 same-length : tie.Need-same-length
@@ -52,11 +61,11 @@ same-length c = search needs
 
 returns : tie.Need-returns
 returns c =
-    let start = c .before .before .before .before .before .before .before .before .before .before .before .before .before .before .before .before .before .before .before .before .before .before .before .before .before .before .before .before in
+    let start = c .before .before .before .before .before .before .before .before .before .before .before .before .before .before .before .before .before .before .before .before .before .before .before .before .before .before .before .before .before .before .before .before .before .before .before .before .before in
     let a = start .args in
     let sized = sizes (a .state) _ (start .good .1 .0) in
-    let gate = full-gate-is (a .state) (c .before .before .before .before .before .before .before .before .before .before .before .before .before .before .before .before .before .before .before .before .before .before .before .before .before .valid .ensures) (length (a .sheet .now)) (a .ram .now) (c .before .before .before .before .before .before .before .before .before .before .before .before .before .before .before .before .before .before .before .before .before .before .before .before .full-gate .ensures) in
-    let done = c .before .before .before .before .before .before .before .before .poll-controllers .ensures (view (a .state) .core) (held sized) in
+    let gate = full-gate-is (a .state) (c .before .before .before .before .before .before .before .before .before .before .before .before .before .before .before .before .before .before .before .before .before .before .before .before .before .before .before .before .before .before .before .before .before .before .valid .ensures) (length (a .sheet .now)) (a .ram .now) (c .before .before .before .before .before .before .before .before .before .before .before .before .before .before .before .before .before .before .before .before .before .before .before .before .before .before .before .before .before .before .before .before .before .full-gate .ensures) in
+    let done = c .before .before .before .before .before .before .before .before .before .before .before .poll-controllers .ensures (view (a .state) .core) (held sized) refl in
     lifted-performed (view (a .state)) (rw gate at done)
 
 pub polled-spec : {M : Type 1} → statement M
@@ -72,6 +81,9 @@ polled-spec =
     slice-aggregate-poll-controllers-5
     slice-aggregate-poll-controllers-6
     slice-aggregate-poll-controllers-7
+    slice-aggregate-poll-controllers-8
+    slice-aggregate-poll-controllers-9
+    slice-aggregate-poll-controllers-10
     poll-controllers-requires
     same-length
     returns)

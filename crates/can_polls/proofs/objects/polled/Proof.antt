@@ -26,7 +26,7 @@ slice-aggregate-poll-objects-3 : tie.Need-slice-aggregate-poll-objects-3
 slice-aggregate-poll-objects-3 c = search needs
 
 slice-aggregate-poll-objects-4 : tie.Need-slice-aggregate-poll-objects-4
-slice-aggregate-poll-objects-4 c = search needs
+slice-aggregate-poll-objects-4 c = let start = c .before .before .before .before .before .before .before .before .before .before .before .before in sym (sizes (start .args .state) _ (start .good .1 .0) .fulls)
 
 poll-objects-requires : tie.Need-poll-objects-requires
 poll-objects-requires c κs =

@@ -61,10 +61,10 @@ same-length-2 c = search needs
 
 returns : tie.Need-returns
 returns c =
-    let a = c .before .before .before .before .before .before .before .before .before .before .before .before .before .before .before .before .before .before .before .before .before .before .before .before .before .before .before .before .before .before .before .before .before .before .before .before .before .before .before .args in
-    with-bytes (events-in (a .kinds .now) (a .places .now) (a .values .now) (a .handles .now) (a .starts .now) (a .ends .now) (a .«data» .now)) (a .i) (a .sheet .now) (c .before .before .before .before .before .before .before .before .before .before .before .before .before .before .before .before .before .before .before .before .before .before .before .before .before .before .before .part .ensures)
+    let a = c .before .before .before .before .before .before .before .before .before .before .before .before .before .before .before .before .before .before .before .before .before .before .before .before .before .before .before .before .before .before .before .before .before .before .before .before .before .before .before .before .before .before .args in
+    with-bytes (events-in (a .kinds .now) (a .places .now) (a .values .now) (a .handles .now) (a .starts .now) (a .ends .now) (a .«data» .now)) (a .i) (a .sheet .now) (c .before .before .before .before .before .before .before .before .before .before .before .before .before .before .before .before .before .before .before .before .before .before .before .before .before .before .before .before .before .before .part .ensures)
     (view
-    (gathered (a .initialised .now) (a .controller-count .now) (a .object-count .now) (a .modes .now) (a .requests .now) (a .marks .now) (a .owners .now) (a .receivings .now) (a .pools .now) (a .pendings .now) (a .dones .now) (a .fulls .now) (a .payloads .now) (a .paddings .now)
+    (gathered (a .initialised .now) (a .controller-count .now) (a .object-count .now) (a .modes .now) (a .requests .now) (a .marks .now) (a .recoverings .now) (a .tx-errors .now) (a .rx-errors .now) (a .owners .now) (a .receivings .now) (a .pools .now) (a .pendings .now) (a .dones .now) (a .fulls .now) (a .payloads .now) (a .paddings .now)
     (a .codes .now) (a .masks .now)))
     (a .ram .now) (c .before .before .before .before .step .ensures)
 

@@ -5,7 +5,7 @@ use Rattle.can_step.proofs.whole.lay.Statement.{statement}
 use Rattle.can_step.proofs.whole.lay.Tie as tie
 
 returns : tie.Need-returns
-returns c = (refl, sizes (c .before .before .before .before .before .before .before .before .before .before .before .before .before .args .state) _ (c .before .before .before .before .before .before .before .before .before .before .before .before .before .good .0))
+returns c = (refl, sizes (c .before .before .before .before .before .before .before .before .before .before .before .before .before .before .before .before .args .state) _ (c .before .before .before .before .before .before .before .before .before .before .before .before .before .before .before .before .good .0))
 
 pub lay-spec : {M : Type 1} → statement M
 lay-spec = tie.close (tie.spec returns)

@@ -1,6 +1,7 @@
 -- The frame is judged by the settings of the object, the core takes the write, and an accepted frame fills the member that takes it.
 use Prim.Native.Nat.{ℕ, _≤_}
 use mathlib.Core.Path.{_≡_, refl, ap, sym, _∙_}
+use mathlib.Core.List.{[]}
 use native.Mathlib.Omega.{arith}
 use Rattle.rules.specs.Reason.{first-reason, _then_}
 use Rattle.rules.specs.Core.{free-member}
@@ -59,7 +60,7 @@ report-requires c κs =
     let start = c .before .before .before .before .before .before .before .before .before .before .before .before .before .before .before .before .before .before .before .before .before .before .before .before .before .before .before .before in
     let a = start .args in
     let alike : Alike (a .owners .now) (a .receivings .now) (a .pools .now) = record { second = omega (arith, start .pre .0 .1 .second, start .pre .0 .1 .third, start .pre .0 .3, start .pre .0 .4); third = omega (arith, start .pre .0 .1 .third, start .pre .0 .3, start .pre .0 .4) } in
-    let core = core-in (a .initialised) 0 (a .object-count) (a .modes .now) (a .requests .now) (a .marks .now) (a .owners .now) (a .receivings .now) (a .pools .now) (a .pendings .now) (a .dones .now) (a .fulls .now) in
+    let core = core-in (a .initialised) 0 (a .object-count) (a .modes .now) (a .requests .now) (a .marks .now) (a .owners .now) (a .receivings .now) (a .pools .now) (a .pendings .now) (a .dones .now) (a .fulls .now) [] [] [] in
     let taken =
     c .before .before .before .before .before .before .before .before .before .before .take-write .ensures core
     (record { initialised-is = refl; count-is = refl; owned = owned-in (a .owners .now) (a .receivings .now) (a .pools .now) alike; controllers-are = refl; mailboxes-are = refl })

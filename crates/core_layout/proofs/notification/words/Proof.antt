@@ -25,6 +25,9 @@ enum-known-n-6 c = search needs
 enum-known-n-7 : tie.Need-enum-known-n-7
 enum-known-n-7 c = search needs
 
+enum-known-n-8 : tie.Need-enum-known-n-8
+enum-known-n-8 c = search needs
+
 returns : tie.Need-returns
 unfolding words
 returns c = rw (c .before .n .given .1)
@@ -53,6 +56,10 @@ returns-7 : tie.Need-returns-7
 unfolding words
 returns-7 c = rw (c .before .n7 .given .1)
 
+returns-8 : tie.Need-returns-8
+unfolding words
+returns-8 c = rw (c .before .n8 .given .1)
+
 pub words-spec : {M : Type 1} → statement M
 words-spec =
     tie.close
@@ -64,10 +71,12 @@ words-spec =
     enum-known-n-5
     enum-known-n-6
     enum-known-n-7
+    enum-known-n-8
     returns
     returns-2
     returns-3
     returns-4
     returns-5
     returns-6
-    returns-7)
+    returns-7
+    returns-8)

@@ -39,13 +39,13 @@ some c =
     (not-false _ (c .if2 .left)) .0
 
 returns : tie.Need-returns
-returns c =
+returns c recoverings tx-errors rx-errors =
     let a = start (c .before) .args in
     let off : counts-suit (limits-of (length (a .modes .now)) (length (a .owners .now))) (a .initialised) (a .controller-count) (a .object-count) ≡ false =
     rw (c .before .counts-suit .ensures) at (not-true (c .before .counts-suit .result) (c .if1 .taken))
     in
     counts-refuse (a .initialised) (a .controller-count) (a .object-count) (a .modes .now) (a .requests .now) (a .marks .now) (a .owners .now)
-    (a .receivings .now) (a .pools .now) (a .pendings .now) (a .dones .now) (a .fulls .now) (start (c .before) .pre) off
+    (a .receivings .now) (a .pools .now) (a .pendings .now) (a .dones .now) (a .fulls .now) recoverings tx-errors rx-errors (start (c .before) .pre) off
 
 controllers-idle-requires : tie.Need-controllers-idle-requires
 controllers-idle-requires c κs = (start (c .before) .pre .controllers, fit c .0)
@@ -54,7 +54,7 @@ objects-unused-requires : tie.Need-objects-unused-requires
 objects-unused-requires c κs = let places = start (c .before .before) .pre in (places .objects, places .pooled, fit (c .before) .1)
 
 returns-2 : tie.Need-returns-2
-returns-2 c =
+returns-2 c recoverings tx-errors rx-errors =
     let passed = c .before .before .before in
     let a = start (passed .before) .args in
     let none =
@@ -63,7 +63,7 @@ returns-2 c =
     in
     rw (c .before .before .controllers-idle .ensures, c .before .objects-unused .ensures)
     (uninitialised-parts (a .initialised) (a .controller-count) (a .object-count) (a .modes .now) (a .requests .now) (a .marks .now) (a .owners .now)
-    (a .receivings .now) (a .pools .now) (a .pendings .now) (a .dones .now) (a .fulls .now) (start (passed .before) .pre) (suits passed) (none .0) (none .1))
+    (a .receivings .now) (a .pools .now) (a .pendings .now) (a .dones .now) (a .fulls .now) recoverings tx-errors rx-errors (start (passed .before) .pre) (suits passed) (none .0) (none .1))
 
 controllers-valid-requires : tie.Need-controllers-valid-requires
 controllers-valid-requires c κs = (start (suited c .before) .pre .controllers, fit (suited c) .0)
@@ -75,7 +75,7 @@ waiting-started-requires : tie.Need-waiting-started-requires
 waiting-started-requires c κs = let passed = suited (c .before .before) in (fit passed .0, fit passed .1, start (passed .before) .pre .objects .boxes)
 
 returns-3 : tie.Need-returns-3
-returns-3 c =
+returns-3 c recoverings tx-errors rx-errors =
     let unused = c .before .before .before .before in
     let passed = unused .before .before in
     let a = start (passed .before) .args in
@@ -87,7 +87,7 @@ returns-3 c =
       c .waiting-started .ensures,
     )
     (initialised-parts (a .initialised) (a .controller-count) (a .object-count) (a .modes .now) (a .requests .now) (a .marks .now) (a .owners .now)
-    (a .receivings .now) (a .pools .now) (a .pendings .now) (a .dones .now) (a .fulls .now) (start (passed .before) .pre) (suits passed) (fit passed .0) (fit passed .1)
+    (a .receivings .now) (a .pools .now) (a .pendings .now) (a .dones .now) (a .fulls .now) recoverings tx-errors rx-errors (start (passed .before) .pre) (suits passed) (fit passed .0) (fit passed .1)
     (λ h. passed .before .before .before .before .before .before .before .shared-slice-known4 .given h .fits))
 
 pub places-valid-spec : {M : Type 1} → statement M
