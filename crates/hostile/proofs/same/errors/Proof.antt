@@ -19,14 +19,26 @@ element-copy-out-same c = search needs
 element-copy-out-same-2 : tie.Need-element-copy-out-same-2 Inv-loop μ-loop
 element-copy-out-same-2 c = search needs
 
+mul-same : tie.Need-mul-same Inv-loop μ-loop
+mul-same c = search needs
+
 element-copy-out-same-3 : tie.Need-element-copy-out-same-3 Inv-loop μ-loop
 element-copy-out-same-3 c = search needs
+
+mul-same-2 : tie.Need-mul-same-2 Inv-loop μ-loop
+mul-same-2 c = search needs
 
 element-copy-out-same-4 : tie.Need-element-copy-out-same-4 Inv-loop μ-loop
 element-copy-out-same-4 c = search needs
 
+mul-same-3 : tie.Need-mul-same-3 Inv-loop μ-loop
+mul-same-3 c = search needs
+
 element-copy-out-same-5 : tie.Need-element-copy-out-same-5 Inv-loop μ-loop
 element-copy-out-same-5 c = search needs
+
+mul-same-4 : tie.Need-mul-same-4 Inv-loop μ-loop
+mul-same-4 c = search needs
 
 element-copy-out-same-6 : tie.Need-element-copy-out-same-6 Inv-loop μ-loop
 element-copy-out-same-6 c = search needs
@@ -52,9 +64,13 @@ errors-spec =
     loop-holds
     element-copy-out-same
     element-copy-out-same-2
+    mul-same
     element-copy-out-same-3
+    mul-same-2
     element-copy-out-same-4
+    mul-same-3
     element-copy-out-same-5
+    mul-same-4
     element-copy-out-same-6
     add-c
     loop-less
