@@ -10,6 +10,7 @@ use Rattle.rules.specs.Format.{Format, Lawful}
 use Rattle.rules.specs.Notification.{Notification, tx_confirmation, tx_cancellation}
 use Rattle.rules.specs.Configuration.{Configuration, no_configuration}
 use Rattle.rules.specs.Core.{Controller, Owner, Mailbox, Core, controller_at, errors_at, owner_at, mailbox_at}
+use Rattle.rules.specs.Polls.{object_in}
 use Rattle.rules.specs.State.{State, initial_state}
 use Rattle.rules.specs.Outcome.{Outcome}
 use Rattle.rules.specs.Polls.{Boxes, Visit, Turn, closing_notification, visit_all, turn_all, boxes_of, confirmation, indication, closing, mode_change, going_off}
@@ -129,7 +130,7 @@ module _ (L : Limits) (F : Format) (h : ℕ) where
   cancellations lawful (call ∷ calls) s ram cfg a x f own =
       let o = performed L F call s ram in
       let e = effect F call o in (
-        unsent_cancelled (frame_after F h x e).sent o.notifications (performed_uncancelled s ram x (sent_gone _ _ a x f.matches own) call),
+        unsent_cancelled (frame_after F h x e).sent o.notifications (performed_uncancelled s ram x (sent_gone (mailbox_at s.core.mailboxes h) (object_in L.object_size ram h) a x f.matches own) call),
         cancellations lawful calls o.state o.ram (in_force L F cfg e) (account_after L F h cfg a e o) (frame_after F h x e) (follows_on L F h lawful call s ram cfg a f) (owned_after L F h cfg x a e o own),
       )
 

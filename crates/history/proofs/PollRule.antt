@@ -306,7 +306,7 @@ module _ (L : Limits) (F : Format) (h : ℕ) where
       next = follows_on L F h lawful call s ram cfg (held k b true) f
 
       keeps : (after_effect L F h cfg (held k b true) (effect F call o) ≡ held k b true) × (frame_after F h x (effect F call o) ≡ x)
-      keeps = closing_keeps _ (effect F call o) closes cfg (held k b true) x
+      keeps = closing_keeps (entry (controller_at s.core.controllers c)) (effect F call o) closes cfg (held k b true) x
 
       agrees : Matches m (object_in L.object_size o.ram h) (after_notifications h (compared L F h o.ram (held k b true)) o.notifications)
       agrees = subst (λ (y : Account). Matches m (object_in L.object_size o.ram h) (after_notifications h (compared L F h o.ram y) o.notifications)) keeps.0 next.matches
