@@ -6,7 +6,7 @@ use bench_plain::night::more;
 use bench_script::command::says_nothing;
 
 // The reader, how many lines were whole so far, and whether the last of them waits to be played: it is whole and says something.
-#[derive(Drop)]
+#[derive(Clone, Copy)]
 pub struct Heard {
     pub reader: Reader,
     pub lines: u64,

@@ -115,7 +115,7 @@ fn played(
 }
 
 // A night, and how far its script is read.
-#[derive(Drop)]
+#[derive(Clone, Copy)]
 struct Playing {
     night: Night,
     heard: Heard,

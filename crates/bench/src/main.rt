@@ -1,6 +1,8 @@
 // The desk bench: plays a script of one command a line over the driver, and prints what came of each.
 //
 //     bench [plain|words] < SCRIPT
+#![tactic(auto)]
+
 mod heard;
 mod input;
 mod line;

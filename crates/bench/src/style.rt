@@ -1,7 +1,7 @@
 // The style of the output, chosen by an argument.
 use bench_words::split::same;
 
-#[derive(Drop)]
+#[derive(Clone, Copy)]
 pub enum Style {
     Plain,
     Words,

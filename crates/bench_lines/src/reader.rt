@@ -10,7 +10,7 @@ use libc::STDIN_FILENO;
 
 // How many bytes of the piece are taken and how many it has; how many bytes of a line are read, and whether it is whole; whether the input
 // has ended, and whether that is because it could not be read.
-#[derive(Drop)]
+#[derive(Clone, Copy)]
 pub struct Reader {
     pub taken: usize,
     pub filled: usize,

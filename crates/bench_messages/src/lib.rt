@@ -1,4 +1,6 @@
 // The other texts of the plain style, each with a contract: which text is put, with which numbers.
+#![tactic(auto)]
+
 pub mod configs;
 pub mod faults;
 pub mod frames;

@@ -1,5 +1,7 @@
 // What the bench says in plain words, and what it keeps of a night for that. A part of the program, which names no promise beyond being safe
 // and ending.
+#![tactic(auto)]
+
 pub mod book;
 pub mod config;
 pub mod draft;

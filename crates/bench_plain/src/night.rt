@@ -14,7 +14,7 @@ pub const OUT_ROOM: usize = OUTPUT + LIST + LIST;
 
 // The bench's own part of a night: the style; the line's number; the lengths lent, in words and bytes; how far the output and the lists are
 // filled; how many lines could not be read, and the first of them; whether the output could not be written.
-#[derive(Drop)]
+#[derive(Clone, Copy)]
 pub struct Desk {
     pub plain: bool,
     pub line: u64,
@@ -28,14 +28,14 @@ pub struct Desk {
 }
 
 // The driver state, and the bench's part.
-#[derive(Drop)]
+#[derive(Clone, Copy)]
 pub struct Night {
     pub state: State,
     pub desk: Desk,
 }
 
 // How far the two lists are filled, and how many frames each had no room for.
-#[derive(Drop)]
+#[derive(Clone, Copy)]
 pub struct Lists {
     pub taken_at: usize,
     pub taken_unlisted: u64,

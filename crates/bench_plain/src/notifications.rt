@@ -6,7 +6,7 @@ use bench_text::put::put;
 use core_layout::notification::WORDS;
 
 // The four words of a notification.
-#[derive(Drop)]
+#[derive(Clone, Copy)]
 pub struct Notification {
     pub kind: u32,
     pub place: u32,

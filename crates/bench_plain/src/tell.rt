@@ -6,14 +6,14 @@ use crate::{book, listed, notifications};
 use can::State;
 
 // How far the output and the lists are filled.
-#[derive(Drop)]
+#[derive(Clone, Copy)]
 pub struct Told {
     pub at: usize,
     pub lists: Lists,
 }
 
 // The poll that the notifications are of: its line, whether it is the bus-off poll, and the state before it.
-#[derive(Drop)]
+#[derive(Clone, Copy)]
 pub struct Poll {
     pub state: State,
     pub line: u64,

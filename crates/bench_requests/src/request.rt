@@ -6,13 +6,13 @@ use bench_script::command::Command;
 use can_calls::request::{Function, Request};
 
 // The call that a command wants, and how many bytes its line brings for it.
-#[derive(Drop)]
+#[derive(Clone, Copy)]
 pub struct Wanted {
     pub request: Request,
     pub length: u32,
 }
 
-#[derive(Drop)]
+#[derive(Clone, Copy)]
 pub enum Asks {
     Call(Wanted),
     // Init with the configuration in words.

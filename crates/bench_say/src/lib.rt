@@ -1,3 +1,5 @@
 // Texts with holes for numbers.
+#![tactic(auto)]
+
 pub mod form;
 pub mod say;

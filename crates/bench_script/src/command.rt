@@ -12,7 +12,7 @@ use bench_words::reading::{Reading, Trouble};
 use bench_words::split::{after, first, same, word};
 
 // What a line asks for. A length counts the bytes that the line brings: they stand in the buffer lent to `read`.
-#[derive(Drop)]
+#[derive(Clone, Copy)]
 pub enum Command {
     // Nothing: a blank line or a comment.
     Blank,
@@ -113,7 +113,7 @@ pub enum Command {
 }
 
 // The commands that take one number and nothing else.
-#[derive(Drop)]
+#[derive(Clone, Copy)]
 pub enum Numbered {
     Get,
     ErrorState,

@@ -5,7 +5,7 @@ ghost use Rattle.bench_script.specs.Name.{name_of, arguments_of};
 
 use bench_words::split::same;
 
-#[derive(Drop)]
+#[derive(Clone, Copy)]
 pub enum Name {
     Init,
     DeInit,
@@ -68,7 +68,7 @@ pub fn name_of(word: &[u8]) -> Name
 }
 
 // How many words follow a name: n, and whether more may.
-#[derive(Drop)]
+#[derive(Clone, Copy)]
 pub struct Arguments {
     pub n: u8,
     pub more: bool,

@@ -10,7 +10,7 @@ use bench_words::reading::{Reading, Trouble};
 use bench_words::split::{after, first, same, word};
 
 // What a word may say: a number that fits a byte, a byte of two digits, or an identifier.
-#[derive(Drop)]
+#[derive(Clone, Copy)]
 pub enum Value {
     Number,
     Byte,
@@ -18,7 +18,7 @@ pub enum Value {
 }
 
 // An object sends, sends from a pool that its line names, or receives.
-#[derive(Drop)]
+#[derive(Clone, Copy)]
 pub enum Kind {
     Sending,
     Pooled,

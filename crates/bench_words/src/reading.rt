@@ -1,7 +1,7 @@
 // What comes of reading a word.
 
 // Why a line can't be read.
-#[derive(Drop)]
+#[derive(Clone, Copy)]
 pub enum Trouble {
     LineTooLong,
     UnknownCommand,
@@ -27,7 +27,7 @@ pub enum Trouble {
 }
 
 // The number that a word says, or the trouble with it.
-#[derive(Drop)]
+#[derive(Clone, Copy)]
 pub enum Reading {
     Value(u32),
     Unreadable(Trouble),

@@ -4,14 +4,14 @@ ghost use Rattle.rules.specs.Bytes.{part, same_bytes};
 ghost use Rattle.bench_words.specs.Split.{is_blank, in_run, leading, next_word, word_at, word, first, after};
 
 // Where a word stands: from start up to, not including, end. An empty one says that there is no further word.
-#[derive(Drop)]
+#[derive(Clone, Copy)]
 pub struct Span {
     pub start: usize,
     pub end: usize,
 }
 
 // Bytes that belong together: blanks, those of a word, and those of one of several texts in a row.
-#[derive(Drop)]
+#[derive(Clone, Copy)]
 pub enum Run {
     Blanks,
     Word,

@@ -1,4 +1,6 @@
 // The two questions that C firmware asks, on plain numbers. include/can_bench.h declares them for C.
+#![tactic(auto)]
+
 ghost use Rattle.std.specs.Prelude.{◌≡◌};
 ghost use Rattle.rules.specs.Can as can;
 ghost use Rattle.c_abi.specs.Number.{one_or_zero};

@@ -13,6 +13,7 @@
 //
 // After a call, `notifications` says how many notifications stand on the sheet from word 0 on, four words each:
 // the kind, then object or controller and what goes with it (docs/ARCHITECTURE.md has the table).
+#![tactic(auto)]
 
 // The sizes of this chip.
 pub use can_chip::{CONTROLLERS, OBJECT_SIZE, OBJECTS, RAM_SIZE, SHEET_SIZE};

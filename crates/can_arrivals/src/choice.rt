@@ -8,7 +8,7 @@ use can_frame::filter::filter_accepts;
 use core_events::pick::{Pick, better};
 
 // The best object so far among the empty ones, and among the full ones.
-#[derive(Drop)]
+#[derive(Clone, Copy)]
 pub struct Choice {
     pub empty: Pick,
     pub full: Pick,

@@ -1,4 +1,6 @@
 // 01's Arrived: which object takes the frame, what becomes of it over lent arrays, and the call on the driver state.
+#![tactic(auto)]
+
 pub mod choice;
 pub mod frame_arrived;
 pub mod judge;

@@ -5,7 +5,7 @@ ghost use Rattle.can_calls.specs.Answer.{answer_of, number_told};
 
 use can::{ArrivalReply, NextReply, Question, QuestionReply, WriteReply};
 
-#[derive(Drop)]
+#[derive(Clone, Copy)]
 pub enum Answer {
     Nothing,
     Mode(u32),

@@ -15,7 +15,7 @@ use crate::request::{Function, Request};
 use can::{Asked, Called, Question, State, Verdict};
 
 // What came of a call.
-#[derive(Drop)]
+#[derive(Clone, Copy)]
 pub struct Played {
     pub state: State,
     pub verdict: Verdict,

@@ -3,7 +3,7 @@ ghost use Rattle.std.specs.Prelude.{◌≡◌};
 ghost use Rattle.can_calls.specs.Request as requests;
 
 // The function of the driver.
-#[derive(Drop)]
+#[derive(Clone, Copy)]
 pub enum Function {
     Init,
     DeInit,
@@ -27,7 +27,7 @@ pub enum Function {
 // What the call names: its controller or its object; a number, which is the handle of a frame, the mode asked for or the transmit count; the
 // receive count, which goes with a transmit count; and the identifier. What a function does not take is not looked at. The bytes of a
 // configuration or a frame come beside it.
-#[derive(Drop)]
+#[derive(Clone, Copy)]
 pub struct Request {
     pub function: Function,
     pub controller: u32,

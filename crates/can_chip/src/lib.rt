@@ -1,5 +1,7 @@
 // The limits of this chip in code: the one place that names them. Each limit has a function whose contract says that it is the
 // rules' own, so that a wrong number is refused here.
+#![tactic(auto)]
+
 ghost use Rattle.std.specs.Prelude.{◌≡◌, cond};
 ghost use Rattle.rules.specs.Limits.{ram_size, notification_limit, sheet_size};
 ghost use Rattle.rules.specs.Chip as rules;

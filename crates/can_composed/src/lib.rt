@@ -1,4 +1,6 @@
 // Calls in a row: what several public calls leave is what the claim about lists of calls speaks of.
+#![tactic(auto)]
+
 ghost use Rattle.std.specs.Prelude.{◌<◌, ◌^◌};
 ghost use Rattle.can_composed.specs.Plan.{plan, Reaches};
 

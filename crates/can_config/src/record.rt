@@ -19,7 +19,7 @@ use core_places::owner::{Owner, owner_valid};
 pub const RECORD_SIZE: usize = 12;
 
 // What a record says, and whether Init accepts it.
-#[derive(Drop)]
+#[derive(Clone, Copy)]
 pub struct Record {
     pub valid: bool,
     pub owner: Owner,

@@ -9,7 +9,7 @@ use can_chip::OBJECTS;
 
 // How many controllers and objects are in use, and for each object's place what its record says: an array for each field, as the state
 // has them.
-#[derive(Drop)]
+#[derive(Clone, Copy)]
 pub struct Setup {
     pub controller_count: usize,
     pub object_count: usize,
@@ -25,7 +25,7 @@ pub struct Setup {
 }
 
 // Whether the bytes are accepted, and the version and the configuration that they say if so.
-#[derive(Drop)]
+#[derive(Clone, Copy)]
 pub struct Reading {
     pub accepted: bool,
     pub version: u32,

@@ -1,7 +1,7 @@
 // The rules of a configuration's bytes, and what is found broken.
 
 // A rule of the configuration's bytes; Accepted where none is broken.
-#[derive(Drop)]
+#[derive(Clone, Copy)]
 pub enum Rule {
     Accepted,
     // The header, byte by byte, and the total.
@@ -34,7 +34,7 @@ pub enum Rule {
 
 // The first rule that is broken, and by which object's record; 0 where it is a rule of the header or of the whole. Where an object differs
 // from the lowest one of its pool, which that is; else 0.
-#[derive(Drop)]
+#[derive(Clone, Copy)]
 pub struct Fault {
     pub rule: Rule,
     pub object: usize,

@@ -12,7 +12,7 @@ pub const LONGEST_CLASSIC: u32 = 8;
 pub const LONGEST_FD: u32 = 64;
 
 // How data of some length goes out.
-#[derive(Drop)]
+#[derive(Clone, Copy)]
 pub struct WireLength {
     pub length: u8,
     pub dlc: u8,

@@ -1,4 +1,6 @@
 // Classic and FD frames: identifiers, lengths, filters and what a configuration may say of them.
+#![tactic(auto)]
+
 pub mod filter;
 pub mod identifier;
 pub mod length;

@@ -6,4 +6,6 @@
 // which fields it needs, is told in `can_step`, which makes it. What a kind does not need may be any number.
 //
 // As many events are made as every array has. Bytes that do not lie within the data are none.
+#![tactic(auto)]
+
 pub mod replay;

@@ -1,5 +1,7 @@
 // The services of the driver but Write: the gate with this chip's validity and sizes, then the core's service over the state's arrays.
 // Init and DeInit replace the whole state.
+#![tactic(auto)]
+
 mod configured;
 pub mod deinit;
 pub mod init;

@@ -4,7 +4,7 @@ use core_answers::reply::{ArrivalReply, QuestionReply, WriteReply};
 use core_answers::verdict::Verdict;
 
 // A call that answers a verdict alone.
-#[derive(Drop)]
+#[derive(Clone, Copy)]
 pub struct Called {
     pub state: State,
     pub verdict: Verdict,
@@ -12,7 +12,7 @@ pub struct Called {
 }
 
 // A question of a controller.
-#[derive(Drop)]
+#[derive(Clone, Copy)]
 pub struct Asked {
     pub state: State,
     pub reply: QuestionReply,
@@ -20,7 +20,7 @@ pub struct Asked {
 }
 
 // Write.
-#[derive(Drop)]
+#[derive(Clone, Copy)]
 pub struct Written {
     pub state: State,
     pub reply: WriteReply,
@@ -28,7 +28,7 @@ pub struct Written {
 }
 
 // Arrived.
-#[derive(Drop)]
+#[derive(Clone, Copy)]
 pub struct Arrived {
     pub state: State,
     pub reply: ArrivalReply,

@@ -9,7 +9,7 @@ ghost use Rattle.can_state.specs.Tests.{SettingsAlike, settings_suit, settings_r
 
 use core_places::range::limited;
 
-#[derive(Drop)]
+#[derive(Clone, Copy)]
 pub struct Settings {
     pub payload: u8,
     pub padding: u8,

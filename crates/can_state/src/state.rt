@@ -8,7 +8,7 @@ ghost use Rattle.can_state.specs.View.{view};
 
 use can_chip::{CONTROLLERS, OBJECTS};
 
-#[derive(Drop)]
+#[derive(Clone, Copy)]
 pub struct State {
     pub initialised: bool,
     // So many are in use.

@@ -21,6 +21,8 @@
 //     14 GetControllerTxErrorCounter   controller
 //     15 error counts                  controller, transmit count, receive count
 //     11, any other: FrameArrived      controller, identifier, bytes
+#![tactic(auto)]
+
 mod events;
 mod frames;
 mod polls;

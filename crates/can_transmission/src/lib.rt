@@ -1,4 +1,6 @@
 // The service Write: the core's part and the frame's part over lent arrays, and the call on the driver state.
+#![tactic(auto)]
+
 pub mod judge;
 pub mod lent;
 pub mod write;

@@ -1,4 +1,6 @@
 // The configuration writer: from a configuration to the bytes of a version that say it.
+#![tactic(auto)]
+
 mod header;
 mod judge;
 mod owners;

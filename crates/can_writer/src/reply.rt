@@ -7,7 +7,7 @@ use core_answers::rejection::Rejection;
 use core_answers::verdict::Verdict;
 
 // How many bytes were written, or why none were: InitFailed or SheetTooShort.
-#[derive(Drop)]
+#[derive(Clone, Copy)]
 pub enum ConfigReply {
     Written(usize),
     Rejected(Rejection),

@@ -1,4 +1,6 @@
 // What a call answers: why it is refused, its return code, and the checks that every call begins with.
+#![tactic(auto)]
+
 pub mod gate;
 pub mod question;
 pub mod rejection;

@@ -1,5 +1,5 @@
 // What can be asked of a controller.
-#[derive(Drop)]
+#[derive(Clone, Copy)]
 pub enum Question {
     Mode,
     ErrorState,

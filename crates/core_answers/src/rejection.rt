@@ -3,7 +3,7 @@ ghost use Rattle.std.specs.Prelude.{◌≡◌};
 ghost use Rattle.core_answers.specs.Answer.{reason_of};
 
 // The names of AUTOSAR's development errors, then the bench's own.
-#[derive(Drop)]
+#[derive(Clone, Copy)]
 pub enum Rejection {
     // CAN_E_PARAM_HANDLE: no such sending object.
     ParamHandle,

@@ -7,21 +7,21 @@ use crate::rejection::Rejection;
 use crate::verdict::Verdict;
 
 // A question of a controller: its answer, or why there is none.
-#[derive(Drop)]
+#[derive(Clone, Copy)]
 pub enum QuestionReply {
     Answered(u8),
     Rejected(Rejection),
 }
 
 // Write: the object that took the frame, or why none did.
-#[derive(Drop)]
+#[derive(Clone, Copy)]
 pub enum WriteReply {
     TakenBy(u32),
     Rejected(Rejection),
 }
 
 // Arrived: the object that stores the frame; no object wants it; or all that want it are full.
-#[derive(Drop)]
+#[derive(Clone, Copy)]
 pub enum ArrivalReply {
     Stored(u32),
     Unwanted,
@@ -30,7 +30,7 @@ pub enum ArrivalReply {
 }
 
 // Who sends next: the object; nobody does; or why that cannot be asked.
-#[derive(Drop)]
+#[derive(Clone, Copy)]
 pub enum NextReply {
     Next(u32),
     Nobody,

@@ -7,7 +7,7 @@ ghost use Rattle.core_answers.specs.Answer.{reason_of, verdict_reason};
 use crate::rejection::{Rejection, reason};
 
 // A call is accepted, or refused for a reason.
-#[derive(Drop)]
+#[derive(Clone, Copy)]
 pub enum Verdict {
     Accepted,
     Rejected(Rejection),

@@ -8,7 +8,7 @@ ghost use Rattle.core_events.specs.Pick.{outranks, better_pick};
 use core_places::mailbox::Mailbox;
 
 // The object picked so far, and its rank.
-#[derive(Drop)]
+#[derive(Clone, Copy)]
 pub enum Pick {
     Nobody,
     Object { number: u32, rank: u32 },

@@ -5,7 +5,7 @@ ghost use Rattle.rules.specs.Notification as rules;
 ghost use Rattle.core_layout.specs.Sheet.{words_each, view};
 
 // What a call reports.
-#[derive(Drop)]
+#[derive(Clone, Copy)]
 pub enum Notification {
     TxConfirmation {
         object: u32,

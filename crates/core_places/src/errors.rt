@@ -23,7 +23,7 @@ pub const PASSIVE: u8 = 1;
 pub const BUS_OFF: u8 = 2;
 
 // The second mark, which a bus-off poll leaves and STARTED clears, and the two counts.
-#[derive(Drop)]
+#[derive(Clone, Copy)]
 pub struct Errors {
     pub recovering: bool,
     pub tx_errors: u32,

@@ -11,7 +11,7 @@ use core_places::controller::{Controller, NO_REQUEST, STARTED, STOPPED};
 use core_places::errors::{Errors, no_errors};
 
 // The mode poll carries out a waiting request, the bus-off poll stops a marked controller.
-#[derive(Drop)]
+#[derive(Clone, Copy)]
 pub enum Turn {
     ModeChange,
     GoingOff,

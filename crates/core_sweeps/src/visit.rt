@@ -13,7 +13,7 @@ use core_places::mailbox::Mailbox;
 
 // Which objects a poll visits: the write poll those whose frame was sent, the read poll those that received one, and a poll that takes a
 // controller off the bus its occupied ones.
-#[derive(Drop)]
+#[derive(Clone, Copy)]
 pub enum Visit {
     Sent,
     Received,

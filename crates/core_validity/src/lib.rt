@@ -1,4 +1,6 @@
 // When a core is valid, tested on lent arrays with any number of places.
+#![tactic(auto)]
+
 mod controllers;
 pub mod counts;
 pub mod errors;

@@ -16,7 +16,7 @@ use can_calls::request::{Function, Request};
 // Bytes of a case before those of its call.
 pub const CASE_BYTES: usize = STATE_BYTES + 21;
 
-#[derive(Drop)]
+#[derive(Clone, Copy)]
 pub struct Case {
     pub state: State,
     pub request: Request,

@@ -11,7 +11,7 @@ use libc::STDOUT_FILENO;
 const LINE_ROOM: usize = LONGEST_LINE + 1;
 
 // How far the output is filled, the number of lines played, and how far the input is read.
-#[derive(Drop)]
+#[derive(Clone, Copy)]
 struct Playing {
     at: usize,
     line: u64,

@@ -2,6 +2,8 @@
 // model. Each line of the input is one case in hex digits, and src/case.rt says where in its bytes everything stands.
 //
 //     hostile < CASES
+#![tactic(auto)]
+
 mod case;
 mod input;
 mod line;

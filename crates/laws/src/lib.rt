@@ -1,1 +1,2 @@
 // What follows from the rules, with no code: see proofs/.
+#![tactic(auto)]

@@ -1,6 +1,8 @@
 // Makes the same round of calls over and over, with no input and little output, so that the driver's own cost can be measured.
 //
 //     speed [ROUNDS]
+#![tactic(auto)]
+
 mod round;
 
 use can::State;

@@ -2,14 +2,14 @@
 use can::{State, Verdict};
 
 // How many calls were refused, and how many notifications they wrote.
-#[derive(Drop)]
+#[derive(Clone, Copy)]
 pub struct Sum {
     pub refused: u64,
     pub notifications: u64,
 }
 
 // A state, and the sum of what led there.
-#[derive(Drop)]
+#[derive(Clone, Copy)]
 pub struct Done {
     pub state: State,
     pub sum: Sum,

@@ -3,6 +3,8 @@
 // replay where they are made.
 //
 //     speed_replay [ROUNDS]
+#![tactic(auto)]
+
 mod events;
 mod replayed;
 

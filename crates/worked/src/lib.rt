@@ -1,1 +1,2 @@
 // The paper's worked lines as one table, with no code: see specs/Table.antt.
+#![tactic(auto)]

@@ -1,0 +1,40 @@
+-- `bench_words::identifier::identifier` meets its contract: each test on the way picks its case of the definition, and so few digits spell
+-- less than the limit at which a value is cut.
+use Prim.Native.Nat.{◌^◌, ◌<◌}
+use mathlib.Core.Path.{◌≡◌, sym, ◌∙◌}
+use native.Mathlib.Nat.{lt_of_lt_of_le, pow-le-pow_right}
+use native.Mathlib.Omega.{arith}
+use borrow.Author.Tests.{lt-ltb, le-ltb, not-false}
+use lib.ListN.{length}
+use Rattle.bench_words.specs.Reading.{identifier_of, identifier_digits, value}
+use Rattle.bench_words.proofs.Digits.{value_below}
+use borrow.Author.Rules.{rules}
+use Rattle.bench_words.proofs.identifier.identifier.Goals as goal
+
+-- the digits that pass both tests spell less than the limit
+small : (c : tie.After-limited-value) → value 16 c.before.before.before.before.unprefixed.result.now < 2 ^ 32
+small c =
+    let told = c.before.before.before in
+    lt_of_lt_of_le
+    (value_below 16 told.before.unprefixed.result.now (sym told.all_digits.ensures ∙ not-false told.all_digits.result c.before.before.if1.false))
+    (pow-le-pow_right (omega arith) c.before.if2.false)
+
+pub returns-then-not-all_digits : goal.returns-then-not-all_digits
+unfolding identifier_of
+returns-then-not-all_digits c = rw (← c.unprefixed-digits.ensures, ← c.all_digits.ensures, c.if-not-all_digits.true)
+
+pub returns-then-digits-gt-DIGITS : goal.returns-then-digits-gt-DIGITS
+unfolding identifier_of
+returns-then-digits-gt-DIGITS c =
+    let digits = c.unprefixed-digits in
+    rw (← digits.ensures, ← c.all_digits.ensures, c.if-not-all_digits.false, lt-ltb identifier_digits (length digits.result.now) c.if-digits-gt-DIGITS.true)
+
+pub overflow_cast-result : goal.overflow_cast-result
+overflow_cast-result c = omega (arith, small c)
+
+pub returns : goal.returns
+unfolding identifier_of
+returns c =
+    let digits = c.unprefixed-digits in
+    let whole : c.limited_value.result ≡ value 16 digits.result.now = omega (arith, small c) in
+    rw (← digits.ensures, ← c.all_digits.ensures, c.if-not-all_digits.false, le-ltb identifier_digits (length digits.result.now) c.if-digits-gt-DIGITS.false, whole)

@@ -1,0 +1,8 @@
+-- The part of one byte is the one that is read.
+use mathlib.Core.Path.{sym, ◌∙◌}
+use Rattle.laws.proofs.Splices.{number_one}
+use borrow.Author.Rules.{rules}
+use Rattle.core_layout.proofs.bytes.byte.Goals as goal
+
+pub returns : goal.returns
+returns c = let a = c.args in c.wide.ensures.0 ∙ sym (number_one a.at a.bytes.now)

@@ -1,0 +1,15 @@
+-- The loop's invariant: the run written so far has i elements, and the RAM its length. A turn's store makes the run longer by one.
+use Prim.Native.Nat.{ℕ, ◌+◌, ◌≤◌, ◌-◌}
+use mathlib.Core.List.{List}
+use mathlib.Core.Path.{◌≡◌, refl, ap, sym, ◌∙◌}
+use native.Mathlib.Omega.{arith}
+use lib.ListN.{length, replicate, set, length-set}
+use Rattle.rules.specs.Bytes.{splice}
+use Rattle.laws.proofs.Splices.{splice_nil, fill_more}
+use Rattle.core_layout.proofs.bytes.fill.Given as goal
+
+abbrev pub invariant-loop-i : goal.invariant-loop-i
+invariant-loop-i l = (l.i ≤ l.count) × (length l.ram ≡ length l.initial.ram) × (l.ram ≡ splice l.at (replicate l.i l.value) l.initial.ram)
+
+abbrev pub decreases-loop-i : goal.decreases-loop-i
+decreases-loop-i l = l.count - l.i

@@ -1,0 +1,14 @@
+-- The part of two bytes is the two that are read.
+use native.Mathlib.Nat.{add-zero}
+use native.Mathlib.Omega.{arith}
+use Rattle.rules.specs.Repeat.{list_below}
+use Rattle.rules.specs.Bytes.{number}
+use Rattle.laws.proofs.Splices.{read_part}
+use borrow.Author.Rules.{rules}
+use Rattle.core_layout.proofs.bytes.number_2.Goals as goal
+
+pub returns : goal.returns
+unfolding list_below number
+returns c =
+    let a = c.args in
+    (rw (← read_part a.at 2 a.bytes.now 0 (omega arith), add-zero a.at) (omega arith), omega arith)

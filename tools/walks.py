@@ -1,0 +1,285 @@
+#!/usr/bin/env python3
+"""Turns proofs that walk the code by hand (proofs/F/Proof.antt) into Invariants.antt and Answers.antt.
+
+usage: tools/walks.py CRATE..    at the top of the repository
+
+The old and new names of goals and steps come from `rt check --generated FOLDER --old-names`. An answer that today's search finds by itself is
+dropped; the others are carried over with their paths turned. The check decides what is left by hand.
+"""
+
+import json
+import os
+import re
+import subprocess
+import sys
+import tempfile
+
+TRIVIAL = re.compile(r"^(search rules|search rules depth \d+|omega arith|search \(rules\)|search needs)$")
+
+
+def norm(name):
+    return re.sub(r"^overflow_", "", name.replace("-", "_"))
+
+
+def blocks(text):
+    found, now = [], []
+    for line in text.split("\n"):
+        if not line.strip():
+            if now:
+                found.append(now)
+            now = []
+        else:
+            now.append(line)
+    if now:
+        found.append(now)
+    # lines of a block that begin with white space belong to the block before
+    joined = []
+    for b in found:
+        if joined and b[0][0] == " ":
+            joined[-1] += [""] + b
+        else:
+            joined.append(b)
+    return ["\n".join(b) for b in joined]
+
+
+def chain(places, at):
+    """The places from at up to the start."""
+    by = {p[0]: p for p in places}
+    found = []
+    while at is not None:
+        p = by[at]
+        found.append(p)
+        at = p[1]
+    return found
+
+
+PATH = re.compile(r"(?<![\w.'-])c((?:\.[^\s(){}\[\],;.:]+)+)")
+
+
+def turn_paths(body, info, at):
+    # a name for the record of an earlier place is written out
+    while True:
+        m = re.search(r"let (\S+) = (c(?:\.before)*) in\s*", body)
+        if not m:
+            break
+        body = body[: m.start()] + re.sub(r"(?<![\w.'-])" + re.escape(m.group(1)) + r"(?![\w'-])", m.group(2), body[m.end() :])
+    places = info["places"]
+    names = {p[0]: i for i, p in enumerate(places)}
+    way = chain(places, at) if at in names else []
+    args = [(a.replace(" ", ""), b.replace(" ", "")) for a, b in info["args"]]
+    moved = {a.rsplit(".", 1)[1]: b.rsplit(".", 1)[1] for a, b in args if a.startswith(".args.")}
+
+    def one(m):
+        parts = m.group(1)[1:].split(".")
+        k = 0
+        while parts and parts[0] == "before":
+            parts.pop(0)
+            k += 1
+        if not parts:
+            return "c"
+        here = way[k:] if k < len(way) else way
+        first = norm(parts[0])
+        # what a match binds
+        for p in here:
+            arm = info["arms"][names[p[0]]]
+            if not arm:
+                continue
+            for field, var, path in sorted(arm[2], key=lambda x: -len(x[2])):
+                if path and norm(var) == first and parts[1 : 1 + len(path)] == path:
+                    return "c." + ".".join([arm[0], field] + parts[1 + len(path) :])
+        for p in here + way:
+            old, new = p[2]
+            if old and norm(old) == first:
+                parts[0] = new
+                break
+        else:
+            if "-" in parts[0]:
+                parts[0] = parts[0].replace("-", "_")
+        if parts[0] in ("args", "ranges") and len(parts) > 1:
+            name = parts[1].replace("-", "_")
+            parts[1] = moved.get(name, name)
+        if len(parts) > 2 and parts[1] in ("exit", "new"):
+            parts[2] = parts[2].replace("-", "_")
+        return "c." + ".".join(parts)
+
+    return PATH.sub(one, body)
+
+
+def substituted(body, names):
+    tok = re.compile(r"(?<![\w.'₀₁₂-])([^\s(){}\[\],;.:◌λ→]+)")
+    return tok.sub(lambda m: names.get(m.group(1), m.group(1)), body)
+
+
+def invariant(block, info, loops, crate, path, notes):
+    m = re.match(r"(?s)((?:--[^\n]*\n)*)abbrev (\S+) : tie\.(invariant|decreases)-(\S+)[^\n]*\n(.*)", block)
+    if not m:
+        return None
+    comment, name, kind, loop, rest = m.groups()
+    entry = next((l for l in loops if norm(l[0][0][0]) == norm(loop)), None)
+    if entry is None:
+        notes.append(f"no loop {loop}")
+        return None
+    (pair, variables), changed = entry
+    unfold = ""
+    u = re.match(r"(unfolding [^\n]*\n)(.*)", rest, re.S)
+    if u:
+        unfold, rest = u.groups()
+    h = re.match(r"(?s)" + re.escape(name) + r"((?:\s+[^\s=]+)*)\s*=\s*(.*)", rest)
+    if not h:
+        notes.append(f"unread {name}")
+        return None
+    given = h.group(1).split()
+    names = {}
+    flags = changed or [True] * len(variables)
+    order = [("old", v) for v in variables] + [("now", v) for v, f in zip(variables, flags) if f]
+    if len(given) != len(order):
+        notes.append(f"{name}: {len(given)} arguments, {len(order)} variables")
+    for g, (when, v) in zip(given, order):
+        if g == "_":
+            continue
+        f = flags[variables.index(v)]
+        names[g] = f"l.initial.{v}" if when == "old" and f else f"l.{v}"
+    new = f"{kind}-{pair[1]}"
+    return new, f"{comment}abbrev pub {new} : goal.{new}\n{unfold}{new} l = {substituted(h.group(2), names)}"
+
+
+def convert(crate, key, info, folder, report):
+    file = os.path.join(folder, "Proof.antt")
+    text = open(file, encoding="utf-8").read()
+    notes = []
+    parts = blocks(text)
+    uses, kept, goals, invs, spec, head = [], [], {}, [], None, []
+    for b in parts:
+        lines = b.split("\n")
+        if all(re.match(r"(--|pub use |use )", l) for l in lines):
+            for l in lines:
+                if l.startswith("--"):
+                    head.append(l)
+                elif not re.search(r"\.(Statement\.\{statement\}|Tie as tie)$", l):
+                    uses.append(l)
+            continue
+        if "tie.spec" in b and "tie.close" in b:
+            spec = b
+            continue
+        m = re.match(r"(?s)(?:--[^\n]*\n)*(?:abbrev )?(\S+) : tie\.(\S+)", b)
+        if m and m.group(2).startswith("Need-"):
+            goals[m.group(1)] = (m.group(2)[5:], b)
+        elif m and re.match(r"invariant-|decreases-", m.group(2)):
+            invs.append(b)
+        else:
+            kept.append(b)
+    if spec is None:
+        report.append(f"{crate} {key}: no tie.spec, left")
+        return
+    order = re.search(r"tie\.spec((?:\s+[^\s()]+|\s+\([^()]*\))*)", spec).group(1).split()
+    asked = [n for n in order if n in goals]
+    needs = info["needs"]
+    match = {}
+    if len(asked) == len(needs) :
+        for i, n in enumerate(asked):
+            match[n] = i
+    else:
+        left = list(range(len(needs)))
+        for n in asked:
+            want = norm(goals[n][0])
+            i = next((i for i in left if norm(needs[i][0]) == want), None)
+            if i is not None:
+                match[n] = i
+                left.remove(i)
+        notes.append(f"{len(asked)} goals, now {len(needs)}")
+    loops = list(zip(info["loops"], info["changed"] or [None] * len(info["loops"])))
+    inv_out = []
+    for b in invs:
+        r = invariant(b, info, loops, crate, key, notes)
+        if r:
+            inv_out.append(r[1])
+        else:
+            notes.append("invariant unread: " + b.split("\n")[0])
+    out, dropped = [], 0
+    for n in asked:
+        old, b = goals[n]
+        m = re.match(r"(?s)((?:--[^\n]*\n)*)(?:abbrev )?\S+ : [^\n]*\n((?:unfolding [^\n]*\n)?)(.*)", b)
+        comment, unfold, rest = m.groups()
+        if n not in match:
+            if not re.search(r"=\s*(search rules|search needs)\s*$", rest):
+                notes.append(f"unmatched {n}")
+                out.append((None, "-- UNMATCHED " + old + "\n" + "\n".join("-- " + l for l in b.split("\n"))))
+            continue
+        need = needs[match[n]]
+        at = info["asked_at"][match[n]][0]
+        h = re.match(r"(?s)(\S+)((?:\s+[^\s=]+)*)\s*=(\s*)(.*)", rest)
+        params = h.group(2).split()
+        body = h.group(4)
+        if TRIVIAL.match(body.strip()) and not unfold:
+            dropped += 1
+            continue
+        new = need[1]
+        params = [p for p in params if p not in ("κs", "_κs")]
+        body = turn_paths(body, info, at)
+        # what comes after a where block keeps its text, with the paths turned
+        out.append((new, f"{comment}pub {new} : goal.{new}\n{unfold}{new} {' '.join(params)} ={h.group(3)}{body}"))
+    module = f"Rattle.{crate}.proofs.{key}"
+    in_invariants = [b for b in kept if any(re.search(r"(?<![\w'-])" + re.escape(declared(b)) + r"(?![\w'-])", i) for i in inv_out)] if inv_out else []
+    comment = "\n".join(head)
+    made = []
+    if inv_out:
+        t = "\n".join(([comment] if comment else []) + uses + [f"use {module}.Given as goal"]) + "\n\n" + "\n\n".join([public(b) for b in in_invariants] + inv_out) + "\n"
+        open(os.path.join(folder, "Invariants.antt"), "w", encoding="utf-8").write(t)
+        made.append("Invariants")
+    rest_kept = [b for b in kept if b not in in_invariants]
+    if out or (rest_kept and not inv_out):
+        more = [f"use {module}.Invariants.{{{', '.join(declared(b) for b in in_invariants)}}}"] if in_invariants else []
+        t = "\n".join(([comment] if comment and not inv_out else []) + uses + more + [f"use {module}.Goals as goal"]) + "\n\n" + "\n\n".join(rest_kept + [b for _, b in out]) + "\n"
+        open(os.path.join(folder, "Answers.antt"), "w", encoding="utf-8").write(t)
+        made.append("Answers")
+    os.remove(file)
+    report.append(f"{crate} {key}: {'+'.join(made) or 'nothing'}; dropped {dropped}" + (f"; {'; '.join(notes)}" if notes else ""))
+
+
+def declared(b):
+    for l in b.split("\n"):
+        m = re.match(r"(?:abbrev |unfoldable |pub |record |data |module )*([^\s(){}:]+)", l)
+        if m and not l.startswith("--"):
+            return m.group(1)
+    return "?"
+
+
+def public(b):
+    lines = b.split("\n")
+    for i, l in enumerate(lines):
+        if not l.startswith("--"):
+            if not re.search(r"\bpub\b", l.split(":")[0]):
+                lines[i] = re.sub(r"^(abbrev |unfoldable )?", lambda m: (m.group(1) or "") + "pub ", l, count=1)
+            break
+    return "\n".join(lines)
+
+
+def main(argv):
+    report = []
+    for crate in argv:
+        where = os.path.join("crates", crate)
+        with tempfile.TemporaryDirectory() as d:
+            r = subprocess.run(["rt", "check", "--generated", d, "--old-names"], cwd=where, capture_output=True, text=True, errors="replace")
+            names = os.path.join(d, "names.json")
+            if not os.path.exists(names):
+                print(f"{crate}: no names: {(r.stdout + r.stderr)[-1500:]}")
+                return 1
+            table = json.load(open(names))
+        for key, info in table.items():
+            m = re.match(r"Rattle-" + crate + r"-proofs\.(.*)\.Lts$", key)
+            if not m:
+                continue
+            folder = os.path.join(where, "proofs", *m.group(1).split("."))
+            if os.path.exists(os.path.join(folder, "Proof.antt")):
+                try:
+                    convert(crate, m.group(1), info, folder, report)
+                except Exception as e:
+                    report.append(f"{crate} {m.group(1)}: FAILED {type(e).__name__} {e}")
+        left = subprocess.run(["find", os.path.join(where, "proofs"), "-name", "Proof.antt"], capture_output=True, text=True).stdout.split()
+        report += [f"{crate}: still {p}" for p in left]
+    print("\n".join(report))
+    return 0
+
+
+if __name__ == "__main__":
+    raise SystemExit(main(sys.argv[1:]))
