@@ -53,6 +53,80 @@ def chain(places, at):
     return found
 
 
+def nested(parts, n):
+    """Which of n facts, joined as pairs, a path goes to, and what is left of the path."""
+    k = 0
+    while k < n - 1 and k < len(parts) and parts[k] == "1":
+        k += 1
+    if k == n - 1:
+        return k, parts[k:]
+    if k < len(parts) and parts[k] == "0":
+        return k, parts[k + 1 :]
+    return None, parts
+
+
+def first_params(info, places, step):
+    for p in places:
+        if p[2][0] and norm(p[2][0]) == step and p[3] in info["params"]:
+            return info["params"][p[3]]
+    return None
+
+
+def as_record(body, fields):
+    """The pairs at a body's end as a record of the clauses by name."""
+    text = body.rstrip()
+    if not text.endswith(")"):
+        return body
+    depth, i = 0, len(text)
+    while i:
+        i -= 1
+        depth += {")": 1, "(": -1, "]": 1, "[": -1, "}": 1, "{": -1}.get(text[i], 0)
+        if depth == 0:
+            break
+    if i and not re.search(r"(^|\bin|=)\s*$", text[:i]):
+        return body
+    head, inner, values = text[:i], text[i:], []
+    for k in range(len(fields) - 1):
+        parts = commas(inner)
+        if parts is None:
+            return body
+        if len(parts) == 2:
+            values.append(parts[0])
+            inner = parts[1]
+        elif len(parts) == len(fields) - k:
+            values += parts[:-1]
+            inner = parts[-1]
+            break
+        else:
+            return body
+    values.append(inner)
+    if len(values) != len(fields):
+        return body
+    return head + "record { " + "; ".join(f"{f} = {v.strip()}" for f, v in zip(fields, values)) + " }"
+
+
+def commas(text):
+    text = text.strip()
+    if not (text.startswith("(") and text.endswith(")")):
+        return None
+    parts, depth, now = [], 0, ""
+    for ch in text[1:-1]:
+        if ch in "([{":
+            depth += 1
+        if ch in ")]}":
+            depth -= 1
+            if depth < 0:
+                return None
+        if ch == "," and depth == 0:
+            parts.append(now)
+            now = ""
+        else:
+            now += ch
+    if now.strip():
+        parts.append(now)
+    return parts if len(parts) > 1 else None
+
+
 PATH = re.compile(r"(?<![\w.'-])c((?:\.[^\s(){}\[\],;.:]+)+)")
 
 
@@ -95,6 +169,18 @@ def turn_paths(body, info, at):
         else:
             if "-" in parts[0]:
                 parts[0] = parts[0].replace("-", "_")
+        fields = (info.get("pre") or {}).get("fields") or []
+        if parts[0] == "requires" and len(fields) > 1:
+            field, rest = nested(parts[1:], len(fields))
+            if field is not None:
+                parts = ["requires", fields[field]] + rest
+        if len(parts) > 2 and parts[1] == "auto" and first_params(info, here + way, first):
+            params = first_params(info, here + way, first)
+            i = 2
+            while i < len(parts) and parts[i] == "1":
+                i += 1
+            if i < len(parts) and parts[i] == "0" and i - 2 < len(params):
+                parts = parts[:2] + [params[i - 2]] + parts[i + 1 :]
         if parts[0] in ("args", "ranges") and len(parts) > 1:
             name = parts[1].replace("-", "_")
             parts[1] = moved.get(name, name)
@@ -216,6 +302,9 @@ def convert(crate, key, info, folder, report):
         new = need[1]
         params = [p for p in params if p not in ("κs", "_κs")]
         body = turn_paths(body, info, at)
+        fields = info["asked"].get(need[0]) or info["asked"].get(new)
+        if fields and len(fields) > 1:
+            body = as_record(body, fields)
         # what comes after a where block keeps its text, with the paths turned
         out.append((new, f"{comment}pub {new} : goal.{new}\n{unfold}{new} {' '.join(params)} ={h.group(3)}{body}"))
     module = f"Rattle.{crate}.proofs.{key}"

@@ -19,6 +19,7 @@ pub fn state_gate(valid: bool) -> Verdict
 }
 
 // A call that takes a sheet of so many words, where a driver asks for sheet_size.
+#[tactic(auto, unfolding(rules::specs::Reason::first_reason))]
 pub fn sheet_gate(valid: bool, sheet: usize, sheet_size: usize) -> Verdict
     ensures { verdict_reason result ≡ first_reason (INVALID_STATE if not valid ∷ SHEET_TOO_SHORT if ltb sheet sheet_size ∷ []) }
 {
@@ -32,6 +33,7 @@ pub fn sheet_gate(valid: bool, sheet: usize, sheet_size: usize) -> Verdict
 }
 
 // A call that takes a sheet of so many words and memory of so many bytes.
+#[tactic(auto, unfolding(rules::specs::Reason::first_reason))]
 pub fn full_gate(
     valid: bool,
     sheet: usize,
@@ -61,6 +63,7 @@ pub fn full_gate(
 }
 
 // A call that takes memory of so many bytes and no sheet.
+#[tactic(auto, unfolding(rules::specs::Reason::first_reason))]
 pub fn ram_gate(valid: bool, ram: usize, ram_size: usize) -> Verdict
     ensures { verdict_reason result ≡ first_reason (INVALID_STATE if not valid ∷ WRONG_RAM_SIZE if not (eqb ram ram_size) ∷ []) }
 {

@@ -8,8 +8,7 @@ use borrow.Author.Tests.{lt-ltb, le-ltb, leb-true, leb-false}
 use Rattle.rules.specs.Limits.{object_start}
 use Rattle.rules.specs.Can.{longest_fd}
 use Rattle.rules.specs.Chip.{chip}
-use Rattle.can_layout.proofs.object.has_room.Statement.{statement}
-use Rattle.can_layout.proofs.object.has_room.Tie as tie
+use Rattle.can_layout.proofs.object.has_room.Goals as goal
 
 ends_within : (object ram : ℕ) → ltb object (ram / chip.object_size) ≡ leb (object_start chip object + chip.object_size) ram
 ends_within object ram = go (leb (object_start chip object + chip.object_size) ram) refl
@@ -18,8 +17,5 @@ ends_within object ram = go (leb (object_start chip object + chip.object_size) r
     go true e = lt-ltb object (ram / chip.object_size) (omega (arith, leb-true (object_start chip object + chip.object_size) ram e))
     go false e = le-ltb object (ram / chip.object_size) (omega (arith, leb-false (object_start chip object + chip.object_size) ram e))
 
-returns : tie.Need-returns
+pub returns : goal.returns
 returns c = ap (λ (b : Bool). b && leb c.args.length longest_fd) (ends_within c.args.object c.args.ram)
-
-pub has_room_spec : {M : Type 1} → statement M
-has_room_spec = tie.close (tie.spec returns)
