@@ -133,7 +133,7 @@ PATH = re.compile(r"(?<![\w.'-])c((?:\.[^\s(){}\[\],;.:]+)+)")
 def turn_paths(body, info, at):
     # a name for the record of an earlier place is written out
     while True:
-        m = re.search(r"let (\S+) = (c(?:\.before)*) in\s*", body)
+        m = re.search(r"let (\S+) = (c(?:\.before)*(?:\.[\w-]+\.given)?) in\s*", body)
         if not m:
             break
         body = body[: m.start()] + re.sub(r"(?<![\w.'-])" + re.escape(m.group(1)) + r"(?![\w'-])", m.group(2), body[m.end() :])
@@ -229,6 +229,73 @@ def invariant(block, info, loops, crate, path, notes):
     return new, f"{comment}abbrev pub {new} : goal.{new}\n{unfold}{new} l = {substituted(h.group(2), names)}"
 
 
+HELPER = re.compile(r"(?s)((?:--[^\n]*\n)*)(?:abbrev )?(\S+) : (?:\((\S+) : tie\.[^()\s]+\)|tie\.\S+)\s*(.*)")
+
+
+class Helper:
+    """A definition over the record of a place: (comment, name, type, unfolded names, parameters, body), or where it only goes to an earlier place, start."""
+
+    def __init__(self, block):
+        self.ok = False
+        m = HELPER.match(block)
+        if not m:
+            return
+        self.comment, self.name, var, rest = m.groups()
+        d = re.search(r"(?ms)^((?:unfolding [^\n]*\n)?)" + re.escape(self.name) + r"((?: +[^\s=]+)+)\s*=\s*(.*)\Z", rest)
+        if not d or len(re.findall(r"(?m)^" + re.escape(self.name) + r"\s", rest)) != 1:
+            return
+        kind = rest[: d.start()].strip()
+        self.type = kind[1:].strip() if kind.startswith("→") else kind
+        self.unfolding = d.group(1).split()[1:]
+        given = d.group(2).split()
+        first, self.given, self.body = given[0], given[1:], d.group(3).strip()
+        swap = lambda t, v: re.sub(r"(?<![\w.'-])" + re.escape(v) + r"(?![\w'-])", "c", t)
+        self.body = swap(self.body, first)
+        if var:
+            self.type = swap(self.type, var)
+        self.moves = bool(re.fullmatch(r"c(?:\.before)*", self.body))
+        self.ok = True
+
+
+def with_helpers(body, helpers, info, at):
+    """The body with what it uses of the helpers in front, each a `let`, and the names that they unfold."""
+    movers = [h.name for h in helpers.values() if h.moves]
+
+    def flat(text):
+        before = None
+        while text != before:
+            before = text
+            for n in movers:
+                text = re.sub(r"\(" + re.escape(n) + r" ([^()]+)\)", r"\1", text)
+                text = re.sub(r"(?<![\w.'-])" + re.escape(n) + r" (c[\w.'-]*)", r"\1", text)
+        text = turn_paths(text, info, at)
+        text = re.sub(r"\(not-(?:true|false) \S+ (c\.if-not-[\w.-]+)\)", r"\1", text)
+        for n in helpers:
+            text = re.sub(r"\(" + re.escape(n) + r" c\)", n, text)
+            text = re.sub(r"(?<![\w.'-])" + re.escape(n) + r" c(?![\w.'-])", n, text)
+        return text
+
+    text = flat(body)
+    used, unfolded, todo = [], [], [text]
+    while todo:
+        t = todo.pop()
+        for n, h in helpers.items():
+            if not h.moves and n not in used and re.search(r"(?<![\w.'-])" + re.escape(n) + r"(?![\w'-])", t):
+                used.append(n)
+                todo += [flat(h.type), flat(h.body)]
+    front = ""
+    for n, h in helpers.items():
+        if n in used:
+            value = flat(h.body)
+            if h.given:
+                value = f"λ {' '.join(h.given)}. {value}"
+            front += f"    let {n} : {flat(h.type)} = {value} in\n"
+            unfolded += h.unfolding
+    if front and not text.startswith("\n"):
+        text = "    " + text
+    return front + text, unfolded
+
+
 def convert(crate, key, info, folder, report):
     file = os.path.join(folder, "Proof.antt")
     text = open(file, encoding="utf-8").read()
@@ -273,6 +340,21 @@ def convert(crate, key, info, folder, report):
                 match[n] = i
                 left.remove(i)
         notes.append(f"{len(asked)} goals, now {len(needs)}")
+    helpers, still = {}, []
+    for b in kept:
+        h = Helper(b)
+        if h.ok:
+            helpers[h.name] = h
+        else:
+            if "tie." in b:
+                notes.append("helper unread: " + declared(b))
+            still.append(b)
+    kept = still
+    for _ in helpers:
+        for h in helpers.values():
+            for m in helpers.values():
+                if m.moves and not h.moves:
+                    h.moves = bool(re.fullmatch(r"c(?:\.before)*", re.sub(r"\(" + re.escape(m.name) + r" (c[\w.'-]*)\)", r"\1", h.body)))
     loops = list(zip(info["loops"], info["changed"] or [None] * len(info["loops"])))
     inv_out = []
     for b in invs:
@@ -301,12 +383,16 @@ def convert(crate, key, info, folder, report):
             continue
         new = need[1]
         params = [p for p in params if p not in ("κs", "_κs")]
-        body = turn_paths(body, info, at)
+        body, unfolded = with_helpers(body, helpers, info, at)
+        if unfolded:
+            names = (unfold.split()[1:] if unfold else []) + unfolded
+            unfold = "unfolding " + " ".join(dict.fromkeys(names)) + "\n"
+        space = "\n" if body.startswith("    let") else h.group(3)
         fields = info["asked"].get(need[0]) or info["asked"].get(new)
         if fields and len(fields) > 1:
             body = as_record(body, fields)
         # what comes after a where block keeps its text, with the paths turned
-        out.append((new, f"{comment}pub {new} : goal.{new}\n{unfold}{new} {' '.join(params)} ={h.group(3)}{body}"))
+        out.append((new, f"{comment}pub {new} : goal.{new}\n{unfold}{new} {' '.join(params)} ={space}{body}"))
     module = f"Rattle.{crate}.proofs.{key}"
     in_invariants = [b for b in kept if any(re.search(r"(?<![\w'-])" + re.escape(declared(b)) + r"(?![\w'-])", i) for i in inv_out)] if inv_out else []
     comment = "\n".join(head)

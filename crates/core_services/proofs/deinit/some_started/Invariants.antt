@@ -1,0 +1,22 @@
+-- The loop's invariant: `none` says that no controller passed is STARTED. Past the last place there is no controller that could be.
+use Prim.Native.Nat.{ℕ, ◌≤◌, ◌-◌}
+use native.Mathlib.Omega.{arith}
+use mathlib.Core.Path.{◌≡◌, refl, sym, ap, ◌∙◌}
+use mathlib.Core.Bool.{Bool, not}
+use mathlib.Core.List.{List}
+use lib.ListN.{length, get_or, get_or-eq_default}
+use lib.Dec.{eqb}
+use borrow.Author.Rules.{rules}
+use Rattle.rules.specs.Repeat.{all_below}
+use Rattle.rules.specs.Mode.{UNINIT, STARTED}
+use Rattle.laws.proofs.Repeat.{all_below_more, all_below_from}
+use Rattle.core_services.proofs.deinit.some_started.Given as goal
+
+abbrev pub not_started : List ℕ → ℕ → Bool
+not_started modes c = not (eqb (get_or modes c UNINIT) STARTED)
+
+abbrev pub invariant-loop-c : goal.invariant-loop-c
+invariant-loop-c l = (l.c ≤ l.end) × (l.none ≡ all_below l.c (not_started l.modes))
+
+abbrev pub decreases-loop-c : goal.decreases-loop-c
+decreases-loop-c l = l.end - l.c

@@ -1,0 +1,19 @@
+-- `none` says that no object passed is a member.
+use Prim.Native.Nat.{ℕ, ◌≤◌, ◌-◌}
+use native.Mathlib.Omega.{arith}
+use mathlib.Core.Path.{◌≡◌, refl, ap, ◌∙◌}
+use mathlib.Core.Bool.{not}
+use lib.ListN.{get_or}
+use borrow.Author.Rules.{rules}
+use Rattle.rules.specs.Repeat.{all_below}
+use Rattle.laws.proofs.Repeat.{all_below_more}
+use Rattle.laws.proofs.Pools.{lowest_itself}
+use Rattle.core_places.specs.Pools.{pooled}
+use Rattle.core_services.proofs.Laws.{no_member}
+use Rattle.core_services.proofs.pool.is_lowest.Given as goal
+
+abbrev pub invariant-loop-i : goal.invariant-loop-i
+invariant-loop-i l = (l.pool ≡ get_or l.pools l.h 0) × (l.i ≤ l.h) × (l.none ≡ all_below l.i (λ j. not (pooled l.receivings l.pools (get_or l.pools l.h 0) j)))
+
+abbrev pub decreases-loop-i : goal.decreases-loop-i
+decreases-loop-i l = l.h - l.i
