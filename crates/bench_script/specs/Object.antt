@@ -1,5 +1,5 @@
 -- An object of a configuration in words: what stands behind `object`.
-use Rattle.std.specs.Prelude.{ℕ, ◌-◌, not, cond, List, [], ◌∷◌}
+use Rattle.std.specs.Prelude.{ℕ, ◌-◌, not, cond, List}
 use Rattle.rules.specs.Bytes.{same_bytes}
 use Rattle.bench_words.specs.Text.{ascii}
 use Rattle.bench_words.specs.Split.{is_missing, first, after}

@@ -7,10 +7,8 @@ use mathlib.Core.Bool.{Bool, true, false, cond}
 use mathlib.Core.List.{List, [], ◌∷◌, ◌++◌}
 use lib.ListN.{length, take, drop, length-take, length-drop}
 use lib.Seq.{length-take-le}
-use lib.Dec.{eqb}
 use borrow.Author.Tests.{eq-eqb, ne_eqb}
-use Rattle.rules.specs.Bytes.{part, splice}
-use Rattle.rules.specs.Repeat.{list_below}
+use Rattle.rules.specs.Bytes.{splice}
 use Rattle.laws.proofs.Splices.{splice_nil, splice_then, take_splice, length_splice}
 use Rattle.laws.proofs.Repeat.{length-list_below}
 use Rattle.bench_words.specs.Split.{is_blank, in_word, leading, next_word, spanned}

@@ -1,5 +1,5 @@
 -- Numbers, identifiers and bytes as words.
-use Rattle.std.specs.Prelude.{ℕ, zero, suc, ◌+◌, ◌*◌, ◌-◌, ◌/◌, ◌%◌, ◌^◌, ◌≡◌, Bool, true, false, not, cond, ◌&&◌, List, [], ◌∷◌, ◌++◌, length, take, drop, get_or, eqb, ltb, leb}
+use Rattle.std.specs.Prelude.{ℕ, zero, suc, ◌+◌, ◌*◌, ◌-◌, ◌/◌, ◌%◌, ◌^◌, ◌≡◌, Bool, true, false, not, cond, ◌&&◌, List, [], ◌++◌, length, take, drop, get_or, eqb, ltb, leb}
 use Rattle.rules.specs.Bytes.{same_bytes, splice}
 use Rattle.rules.specs.Repeat.{rising, all_below, list_below}
 use Rattle.bench_words.specs.Text.{ascii}

@@ -1,7 +1,6 @@
 -- `bench_words::bytes::byte_count` meets its contract: each test on the way picks its case of the definition.
 use borrow.Author.Tests.{eq-eqb, ne_eqb}
 use Rattle.bench_words.specs.Reading.{byte_count_of}
-use borrow.Author.Rules.{rules}
 use Rattle.bench_words.proofs.bytes.byte_count.Goals as goal
 
 pub returns-then-not-all_digits : goal.returns-then-not-all_digits

@@ -1,7 +1,6 @@
 -- `bench_words::bytes::one_byte` meets its contract: each test on the way picks its case of the definition.
 use borrow.Author.Tests.{eq-eqb, ne_eqb}
 use Rattle.bench_words.specs.Reading.{one_byte_of}
-use borrow.Author.Rules.{rules}
 use Rattle.bench_words.proofs.bytes.one_byte.Goals as goal
 
 pub returns-then-not-all_digits : goal.returns-then-not-all_digits

@@ -1,10 +1,8 @@
-use Prim.Native.Nat.{◌-◌, ◌/◌, ◌≤◌}
+use Prim.Native.Nat.{◌/◌}
 use mathlib.Core.Path.{◌≡◌, refl, sym}
 use native.Mathlib.Omega.{arith}
 use native.Mathlib.Numerals.{add-one}
 use lib.ListN.{length, length-set}
-use borrow.Author.Rules.{rules}
-use Rattle.rules.specs.Bytes.{splice}
 use Rattle.rules.specs.Repeat.{list_below}
 use Rattle.laws.proofs.Splices.{splice_nil, splice_more}
 use Rattle.laws.proofs.Repeat.{length-list_below}

@@ -1,16 +1,11 @@
 -- `bench_words::bytes::put_pairs` meets its contract. The loop's invariant: the run written so far is the bytes of the pairs passed. A turn's
 -- store makes the run longer by one.
 use Prim.Native.Nat.{◌-◌, ◌/◌, ◌≤◌}
-use mathlib.Core.Path.{◌≡◌, refl, sym}
-use native.Mathlib.Omega.{arith}
-use native.Mathlib.Numerals.{add-one}
-use lib.ListN.{length, length-set}
-use borrow.Author.Rules.{rules}
+use mathlib.Core.Path.{◌≡◌}
+use lib.ListN.{length}
 use Rattle.rules.specs.Bytes.{splice}
 use Rattle.rules.specs.Repeat.{list_below}
-use Rattle.laws.proofs.Splices.{splice_nil, splice_more}
-use Rattle.laws.proofs.Repeat.{length-list_below}
-use Rattle.bench_words.specs.Reading.{pair_at, hex_pairs}
+use Rattle.bench_words.specs.Reading.{pair_at}
 use Rattle.bench_words.proofs.bytes.put_pairs.Given as goal
 
 abbrev pub invariant-loop-i : goal.invariant-loop-i

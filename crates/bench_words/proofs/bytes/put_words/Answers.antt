@@ -3,76 +3,79 @@ use native.Mathlib.Omega.{arith}
 use mathlib.Core.Path.{◌≡◌, sym, ap, ◌∙◌}
 use mathlib.Core.List.{List}
 use lib.ListN.{length}
-use borrow.Author.Rules.{rules}
 use Rattle.bench_words.specs.Split.{next_word, spanned}
 use Rattle.bench_words.specs.Reading.{is_unreadable, byte_count_of}
 use Rattle.bench_words.specs.declared.split.Span.{Span}
-use Rattle.bench_words.proofs.Words.{Going, begun, ended, over, troubled, onward_by, word_within, word_short}
+use Rattle.bench_words.proofs.Words.{begun, ended, over, troubled, onward_by, word_within, word_short}
 use Rattle.bench_words.proofs.bytes.put_words.Goals as goal
 
--- where the loop's words are read: the text, the buffer that was lent, and the turn
-module _ (c : tie.After-between invariant-loop decreases-loop) where
-  abbrev text : List ℕ
-  text = c.before.before.before.before.before.before.args.text.now
+-- the word that is read, by where it stands
+word_is : (text : List ℕ) (at : ℕ) {v : List ℕ} {s : Span} → v ≡ spanned s text → s ≡ next_word text at → v ≡ spanned (next_word text at) text
+word_is text at e f = e ∙ ap (λ (s : Span). spanned s text) f
 
-  abbrev lent : List ℕ
-  lent = c.before.before.before.before.before.before.args.out.now
+-- its bytes have room behind those said so far
+low : (text : List ℕ) (at count : ℕ) {v : List ℕ} → 2 * count ≤ at → at ≤ length text → v ≡ spanned (next_word text at) text → 2 * count + length v ≤ length text
+low text at count h k e = omega (arith, word_short text at, word_within text at k, ap length e)
 
-  abbrev w : List ℕ
-  w = spanned (next_word text c.before.before.before.loop.at) text
-
-  -- the word that is read
-  word_is : c.between.result.now ≡ w
-  word_is = c.between.ensures ∙ ap (λ (s : Span). spanned s text) c.before.next_word.ensures
-
-  -- its bytes have room behind those said so far
-  low : 2 * c.before.before.before.loop.count + length c.between.result.now ≤ length text
-  low =
-      let going = c.before.before.before.loop.invariant.0 in
-      omega (arith, going.count_low, word_short text c.before.before.before.loop.at, word_within text c.before.before.before.loop.at going.at_low, ap length word_is)
-
-  -- it is not empty
-  there : (length c.between.result.now ≡ 0 → ⊥) → length w ≡ 0 → ⊥
-  there some none = some (ap length word_is ∙ none)
+-- it is not empty
+there : {v w : List ℕ} → v ≡ w → (length v ≡ 0 → ⊥) → length w ≡ 0 → ⊥
+there e some none = some (ap length e ∙ none)
 
 pub loop-left-init : goal.loop-left-init
 loop-left-init c = (begun c.args.text.now c.args.out.now, omega arith)
 
 pub overflow_cast-result : goal.overflow_cast-result
-overflow_cast-result c = omega (arith, low c, c.requires.0)
+overflow_cast-result c =
+    let word = word_is c.args.text.now c.loop-left.at c.between-word.ensures c.next_word-span.ensures in
+    let room = low c.args.text.now c.loop-left.at c.loop-left.count c.loop-left.invariant.0.count_low c.loop-left.invariant.0.at_low word in
+    omega (arith, room, c.requires.0)
 
 pub shape_of-out-then-word-eq0 : goal.shape_of-out-then-word-eq0
 shape_of-out-then-word-eq0 c = c.loop-left.invariant.0.same_length
 
 pub returns-then-word-eq0 : goal.returns-then-word-eq0
 returns-then-word-eq0 c =
-    ended (text c) (lent c) c.requires.1 c.loop-left.invariant.0 c.loop-left-test.true
-    (ap length (sym (word_is c)) ∙ c.if-word-eq0.true)
+    let word = word_is c.args.text.now c.loop-left.at c.between-word.ensures c.next_word-span.ensures in
+    ended c.args.text.now c.args.out.now c.requires.1 c.loop-left.invariant.0 c.loop-left-test.true
+    (ap length (sym word) ∙ c.if-word-eq0.true)
 
 pub byte_count-reading-requires : goal.byte_count-reading-requires
-byte_count-reading-requires c = omega (arith, low c, c.requires.0)
+byte_count-reading-requires c =
+    let word = word_is c.args.text.now c.loop-left.at c.between-word.ensures c.next_word-span.ensures in
+    let room = low c.args.text.now c.loop-left.at c.loop-left.count c.loop-left.invariant.0.count_low c.loop-left.invariant.0.at_low word in
+    omega (arith, room, c.requires.0)
 
 pub shape_of-out-then-is_unreadable : goal.shape_of-out-then-is_unreadable
 shape_of-out-then-is_unreadable c = c.loop-left.invariant.0.same_length
 
 pub returns-then-is_unreadable : goal.returns-then-is_unreadable
 returns-then-is_unreadable c =
-    let said = c.byte_count-reading.ensures ∙ ap byte_count_of (word_is c) in
+    let word = word_is c.args.text.now c.loop-left.at c.between-word.ensures c.next_word-span.ensures in
+    let some = there word c.if-word-eq0.false in
+    let said = c.byte_count-reading.ensures ∙ ap byte_count_of word in
     rw said
-    (troubled (text c) (lent c) c.requires.1 c.loop-left.invariant.0 c.loop-left-test.true (there c c.if-word-eq0.false)
+    (troubled c.args.text.now c.args.out.now c.requires.1 c.loop-left.invariant.0 c.loop-left-test.true some
     (ap is_unreadable (sym said) ∙ sym c.is_unreadable.ensures ∙ c.if-is_unreadable.true))
 
 pub put_pairs-requires : goal.put_pairs-requires
-put_pairs-requires c = omega (arith, low c, c.requires.1, c.loop-left.invariant.0.same_length)
+put_pairs-requires c =
+    let word = word_is c.args.text.now c.loop-left.at c.between-word.ensures c.next_word-span.ensures in
+    let room = low c.args.text.now c.loop-left.at c.loop-left.count c.loop-left.invariant.0.count_low c.loop-left.invariant.0.at_low word in
+    omega (arith, room, c.requires.1, c.loop-left.invariant.0.same_length)
 
 pub overflow_add-count : goal.overflow_add-count
-overflow_add-count c = omega (arith, low c, c.requires.0)
+overflow_add-count c =
+    let word = word_is c.args.text.now c.loop-left.at c.between-word.ensures c.next_word-span.ensures in
+    let room = low c.args.text.now c.loop-left.at c.loop-left.count c.loop-left.invariant.0.count_low c.loop-left.invariant.0.at_low word in
+    omega (arith, room, c.requires.0)
 
 pub loop-left-preserved : goal.loop-left-preserved
 loop-left-preserved c =
-    let said = c.byte_count-reading.ensures ∙ ap byte_count_of (word_is c) in (
-      onward_by (text c) (lent c) c.requires.1 c.loop-left.invariant.0 c.next_word-span.ensures (word_is c) c.loop-left-test.true
-          (there c c.if-word-eq0.false) (ap is_unreadable (sym said) ∙ sym c.is_unreadable.ensures ∙ c.if-is_unreadable.false) c.put_pairs.ensures,
+    let word = word_is c.args.text.now c.loop-left.at c.between-word.ensures c.next_word-span.ensures in
+    let some = there word c.if-word-eq0.false in
+    let said = c.byte_count-reading.ensures ∙ ap byte_count_of word in (
+      onward_by c.args.text.now c.args.out.now c.requires.1 c.loop-left.invariant.0 c.next_word-span.ensures word c.loop-left-test.true
+          some (ap is_unreadable (sym said) ∙ sym c.is_unreadable.ensures ∙ c.if-is_unreadable.false) c.put_pairs.ensures,
       omega arith,
     )
 

@@ -1,13 +1,12 @@
-use Prim.Native.Nat.{ℕ, ◌≤◌, ◌-◌}
+use Prim.Native.Nat.{ℕ}
 use native.Mathlib.Omega.{arith}
 use mathlib.Core.Path.{◌≡◌, refl, sym, ap}
 use mathlib.Core.Bool.{not, and-true}
 use lib.ListN.{length}
 use lib.Dec.{eqb, ltb}
-use borrow.Author.Rules.{rules}
 use Rattle.rules.specs.Repeat.{all_below}
 use Rattle.bench_words.specs.Reading.{all_digits}
-use Rattle.bench_words.proofs.Digits.{first_digits, digits_more}
+use Rattle.bench_words.proofs.Digits.{digits_more}
 use Rattle.bench_words.proofs.digit.all_digits.Goals as goal
 
 pub loop-i-init : goal.loop-i-init

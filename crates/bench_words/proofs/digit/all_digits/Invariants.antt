@@ -1,14 +1,8 @@
 -- `bench_words::digit::all_digits` meets its contract. The loop's invariant: `ok` says that there are digits and that every byte passed is one.
-use Prim.Native.Nat.{ℕ, ◌≤◌, ◌-◌}
-use native.Mathlib.Omega.{arith}
-use mathlib.Core.Path.{◌≡◌, refl, sym, ap}
-use mathlib.Core.Bool.{not, and-true}
+use Prim.Native.Nat.{◌≤◌, ◌-◌}
+use mathlib.Core.Path.{◌≡◌}
 use lib.ListN.{length}
-use lib.Dec.{eqb, ltb}
-use borrow.Author.Rules.{rules}
-use Rattle.rules.specs.Repeat.{all_below}
-use Rattle.bench_words.specs.Reading.{all_digits}
-use Rattle.bench_words.proofs.Digits.{first_digits, digits_more}
+use Rattle.bench_words.proofs.Digits.{first_digits}
 use Rattle.bench_words.proofs.digit.all_digits.Given as goal
 
 abbrev pub invariant-loop-i : goal.invariant-loop-i

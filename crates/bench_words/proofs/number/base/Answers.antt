@@ -1,6 +1,5 @@
 -- `bench_words::number::base` meets its contract: the test of the prefix picks the base.
 use mathlib.Core.Path.{sym, ◌∙◌}
-use borrow.Author.Rules.{rules}
 use Rattle.bench_words.proofs.number.base.Goals as goal
 
 pub returns-then-is_prefixed : goal.returns-then-is_prefixed

@@ -2,7 +2,6 @@
 use mathlib.Core.Path.{sym, ap}
 use native.Mathlib.Omega.{arith}
 use lib.ListN.{length, take, length-take}
-use borrow.Author.Rules.{rules}
 use Rattle.bench_words.proofs.Same.{differ}
 use Rattle.bench_words.proofs.number.is_prefixed.Goals as goal
 

@@ -1,7 +1,6 @@
 -- `bench_words::number::limited` meets its contract: the number's own reading picks the case, and then the test of the limit.
 use borrow.Author.Tests.{lt-ltb, le-ltb}
 use Rattle.bench_words.specs.Reading.{limited_to}
-use borrow.Author.Rules.{rules}
 use Rattle.bench_words.proofs.number.limited.Goals as goal
 
 pub returns-in-Unreadable : goal.returns-in-Unreadable

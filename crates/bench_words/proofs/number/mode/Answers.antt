@@ -1,6 +1,5 @@
 -- `bench_words::number::mode` meets its contract: each test on the way picks its case of the definition.
 use Rattle.bench_words.specs.Reading.{mode_of}
-use borrow.Author.Rules.{rules}
 use Rattle.bench_words.proofs.number.mode.Goals as goal
 
 pub returns-then-same : goal.returns-then-same

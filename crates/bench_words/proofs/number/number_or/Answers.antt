@@ -4,7 +4,6 @@ use mathlib.Core.Path.{◌≡◌}
 use native.Mathlib.Omega.{arith}
 use borrow.Author.Tests.{lt-ltb, le-ltb}
 use Rattle.bench_words.specs.Reading.{number_or, largest, value}
-use borrow.Author.Rules.{rules}
 use Rattle.bench_words.proofs.number.number_or.Goals as goal
 
 pub returns-then-not-all_digits : goal.returns-then-not-all_digits

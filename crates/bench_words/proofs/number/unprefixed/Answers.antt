@@ -6,7 +6,6 @@ use mathlib.Core.List.{List}
 use native.Mathlib.Omega.{arith}
 use lib.ListN.{length, take, drop, length-take, length-drop}
 use lib.Seq.{take_all}
-use borrow.Author.Rules.{rules}
 use Rattle.bench_words.specs.Reading.{is_prefixed}
 use Rattle.bench_words.proofs.Same.{same_is}
 use Rattle.bench_words.proofs.number.unprefixed.Goals as goal

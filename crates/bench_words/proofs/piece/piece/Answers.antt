@@ -1,5 +1,4 @@
 -- `bench_words::piece::piece` meets its contract: the bytes between the text's start and its end.
-use borrow.Author.Rules.{rules}
 use Rattle.bench_words.proofs.piece.piece.Goals as goal
 
 pub returns : goal.returns

@@ -1,9 +1,6 @@
 -- `bench_words::piece::piece_start` meets its contract. The loop's invariant: `start` is where the text begins that the counter says.
 use Prim.Native.Nat.{◌≤◌, ◌-◌}
-use native.Mathlib.Numerals.{add-one}
-use native.Mathlib.Omega.{arith}
-use mathlib.Core.Path.{◌≡◌, refl, ◌∙◌}
-use borrow.Author.Rules.{rules}
+use mathlib.Core.Path.{◌≡◌}
 use Rattle.bench_words.specs.Piece.{piece_start}
 use Rattle.bench_words.proofs.piece.piece_start.Given as goal
 

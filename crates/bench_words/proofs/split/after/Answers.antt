@@ -1,10 +1,8 @@
 -- `bench_words::split::after` meets its contract: the part from the first word's end to the text's.
 use Prim.Native.Nat.{◌-◌}
-use mathlib.Core.Path.{◌∙◌}
 use native.Mathlib.Omega.{arith}
 use lib.ListN.{length, drop, length-drop}
 use lib.Seq.{take_all}
-use borrow.Author.Rules.{rules}
 use Rattle.bench_words.specs.Split.{next_word}
 use Rattle.bench_words.proofs.split.after.Goals as goal
 

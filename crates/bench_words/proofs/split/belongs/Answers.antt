@@ -1,5 +1,4 @@
 -- `bench_words::split::belongs` meets its contract: each case is that of the definition.
-use borrow.Author.Rules.{rules}
 use Rattle.bench_words.proofs.split.belongs.Goals as goal
 
 pub returns-in-Blanks : goal.returns-in-Blanks

@@ -1,13 +1,7 @@
 -- `bench_words::split::same` meets its contract. The loop's invariant: the words are as long as each other, and every byte passed agrees.
 use Prim.Native.Nat.{ℕ, ◌≤◌, ◌<◌, ◌-◌}
-use native.Mathlib.Omega.{arith}
-use mathlib.Core.Path.{◌≡◌, sym, ap}
-use mathlib.Core.List.{List}
+use mathlib.Core.Path.{◌≡◌}
 use lib.ListN.{length, get_or}
-use lib.Seq.{ext_get_or}
-use borrow.Author.Count.{below_more}
-use Rattle.laws.proofs.Objects.{same_bytes_refl}
-use Rattle.bench_words.proofs.Same.{differ}
 use Rattle.bench_words.proofs.split.same.Given as goal
 
 abbrev pub invariant-loop-i : goal.invariant-loop-i

@@ -1,9 +1,7 @@
-use Prim.Native.Nat.{◌+◌, ◌-◌}
 use native.Mathlib.Omega.{arith}
-use mathlib.Core.Path.{◌≡◌, refl}
-use lib.ListN.{length, drop}
-use borrow.Author.Rules.{rules}
-use Rattle.bench_words.specs.Split.{in_run, leading}
+use mathlib.Core.Path.{refl, ap}
+use mathlib.Core.Bool.{not}
+use Rattle.bench_words.specs.Split.{in_run}
 use Rattle.bench_words.proofs.Leading.{leading_end, leading_stop, leading_more}
 use Rattle.bench_words.proofs.split.skip.Goals as goal
 
@@ -13,12 +11,12 @@ loop-i-init c = refl
 pub returns-then-not-belongs : goal.returns-then-not-belongs
 returns-then-not-belongs c =
     let at = c.loop-i in
-    leading_stop (in_run c.args.run) c.args.line.now at.i at.invariant c.belongs.ensures c.if-not-belongs.true (omega arith)
+    leading_stop (in_run c.args.run) c.args.line.now at.i at.invariant c.belongs.ensures (ap not c.if-not-belongs.true) (omega arith)
 
 pub loop-i-preserved : goal.loop-i-preserved
 loop-i-preserved c =
     let at = c.loop-i in
-    leading_more (in_run c.args.run) c.args.line.now at.i at.invariant c.belongs.ensures c.if-not-belongs.false (omega arith)
+    leading_more (in_run c.args.run) c.args.line.now at.i at.invariant c.belongs.ensures (ap not c.if-not-belongs.false) (omega arith)
 
 pub returns : goal.returns
 returns c = leading_end (in_run c.args.run) c.args.line.now c.loop-i.i c.loop-i.invariant c.loop-i-test.false

@@ -1,11 +1,8 @@
 -- `bench_words::split::skip` meets its contract. The loop's invariant: the run at `i` ends where the one at `at` ends.
 use Prim.Native.Nat.{◌+◌, ◌-◌}
-use native.Mathlib.Omega.{arith}
-use mathlib.Core.Path.{◌≡◌, refl}
+use mathlib.Core.Path.{◌≡◌}
 use lib.ListN.{length, drop}
-use borrow.Author.Rules.{rules}
 use Rattle.bench_words.specs.Split.{in_run, leading}
-use Rattle.bench_words.proofs.Leading.{leading_end, leading_stop, leading_more}
 use Rattle.bench_words.proofs.split.skip.Given as goal
 
 abbrev pub invariant-loop-i : goal.invariant-loop-i

@@ -1,5 +1,4 @@
 -- `bench_words::split::word` meets its contract: the bytes between the word's start and its end.
-use borrow.Author.Rules.{rules}
 use Rattle.bench_words.specs.Split.{word}
 use Rattle.bench_words.proofs.split.word.Goals as goal
 

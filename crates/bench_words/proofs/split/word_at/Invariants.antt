@@ -1,9 +1,6 @@
 -- `bench_words::split::word_at` meets its contract. The loop's invariant: `span` is where the word stands that the counter says.
 use Prim.Native.Nat.{◌≤◌, ◌-◌}
-use native.Mathlib.Numerals.{add-one}
-use native.Mathlib.Omega.{arith}
-use mathlib.Core.Path.{◌≡◌, ◌∙◌}
-use borrow.Author.Rules.{rules}
+use mathlib.Core.Path.{◌≡◌}
 use Rattle.bench_words.specs.Split.{word_at}
 use Rattle.bench_words.proofs.split.word_at.Given as goal
 
