@@ -130,13 +130,22 @@ def commas(text):
 PATH = re.compile(r"(?<![\w.'-])c((?:\.[^\s(){}\[\],;.:]+)+)")
 
 
-def turn_paths(body, info, at):
+def aliases(body):
     # a name for the record of an earlier place is written out
     while True:
         m = re.search(r"let (\S+) = (c(?:\.before)*(?:\.[\w-]+\.given)?) in\s*", body)
         if not m:
             break
         body = body[: m.start()] + re.sub(r"(?<![\w.'-])" + re.escape(m.group(1)) + r"(?![\w'-])", m.group(2), body[m.end() :])
+    for m in list(re.finditer(r"let (\S+) = (c(?:\.[\w-]+)+) in\s*", body)):
+        if re.search(r"(?<![\w.'-])" + re.escape(m.group(1)) + r"\.(auto|given)(?![\w-])", body) or m.group(2).endswith((".requires", ".pre")):
+            body = body.replace(m.group(0), "", 1)
+            body = re.sub(r"(?<![\w.'-])" + re.escape(m.group(1)) + r"(?![\w'-])", m.group(2), body)
+    return body
+
+
+def turn_paths(body, info, at):
+    body = aliases(body)
     places = info["places"]
     names = {p[0]: i for i, p in enumerate(places)}
     way = chain(places, at) if at in names else []
@@ -154,7 +163,7 @@ def turn_paths(body, info, at):
         here = way[k:] if k < len(way) else way
         first = norm(parts[0])
         # what a match binds
-        for p in here:
+        for p in here + way:
             arm = info["arms"][names[p[0]]]
             if not arm:
                 continue
@@ -170,6 +179,8 @@ def turn_paths(body, info, at):
             if "-" in parts[0]:
                 parts[0] = parts[0].replace("-", "_")
         fields = (info.get("pre") or {}).get("fields") or []
+        if parts[0] == "pre":
+            parts[0] = "requires"
         if parts[0] == "requires" and len(fields) > 1:
             field, rest = nested(parts[1:], len(fields))
             if field is not None:
@@ -229,7 +240,7 @@ def invariant(block, info, loops, crate, path, notes):
     return new, f"{comment}abbrev pub {new} : goal.{new}\n{unfold}{new} l = {substituted(h.group(2), names)}"
 
 
-HELPER = re.compile(r"(?s)((?:--[^\n]*\n)*)(?:abbrev )?(\S+) : (?:\((\S+) : tie\.[^()\s]+\)|tie\.\S+)\s*(.*)")
+HELPER = re.compile(r"(?s)((?:--[^\n]*\n)*)(?:abbrev )?(\S+) : (?:\((\S+) : tie\.[^()]+\)|tie\.[^→\n]+)\s*(.*)")
 
 
 class Helper:
@@ -265,6 +276,7 @@ def with_helpers(body, helpers, info, at):
         before = None
         while text != before:
             before = text
+            text = aliases(text)
             for n in movers:
                 text = re.sub(r"\(" + re.escape(n) + r" ([^()]+)\)", r"\1", text)
                 text = re.sub(r"(?<![\w.'-])" + re.escape(n) + r" (c[\w.'-]*)", r"\1", text)
@@ -354,7 +366,7 @@ def convert(crate, key, info, folder, report):
         for h in helpers.values():
             for m in helpers.values():
                 if m.moves and not h.moves:
-                    h.moves = bool(re.fullmatch(r"c(?:\.before)*", re.sub(r"\(" + re.escape(m.name) + r" (c[\w.'-]*)\)", r"\1", h.body)))
+                    h.moves = bool(re.fullmatch(r"c(?:\.before)*", re.sub(r"\(?(?<![\w.'-])" + re.escape(m.name) + r" (c[\w.'-]*)\)?", r"\1", h.body)))
     loops = list(zip(info["loops"], info["changed"] or [None] * len(info["loops"])))
     inv_out = []
     for b in invs:

@@ -33,7 +33,7 @@ fn close_if(
 ) -> usize
     requires count_in_bounds { (count ≤ length owners.now) × (count ≤ length pendings.old) × Alike pendings.old dones.old fulls.old }
     requires lent { Lent size count ram.now }
-    requires fulls_in_bounds { words_each * (from + busy_count count (mailboxes_in pendings.old dones.old fulls.old)) ≤ length sheet.old }
+    requires sheet_room { words_each * (from + busy_count count (mailboxes_in pendings.old dones.old fulls.old)) ≤ length sheet.old }
     ensures { (owned : List Owner) → Owned owned owners.now
         → Swept (closed_if leaves size owned count ram.now controller (boxes_from (mailboxes_in pendings.old dones.old fulls.old)))
         from sheet.old sheet.new (mailboxes_in pendings.new dones.new fulls.new) result }
@@ -76,7 +76,7 @@ fn tell_turn(
 ) -> usize
     requires controller_bound { (controller < 2 ^ 32) × (count ≤ length owners.now) × (count ≤ length pendings.old) × Alike pendings.old dones.old fulls.old }
     requires lent { Lent size count ram.now }
-    requires words_each_in_bounds { words_each * (from + busy_count count (mailboxes_in pendings.old dones.old fulls.old)) + words_each ≤ length sheet.old }
+    requires sheet_room { words_each * (from + busy_count count (mailboxes_in pendings.old dones.old fulls.old)) + words_each ≤ length sheet.old }
     ensures { (owned : List Owner) → Owned owned owners.now
         → Swept (turn_told (turn_of turn) size owned count ram.now controller (view_controller k) (boxes_from (mailboxes_in pendings.old dones.old fulls.old)))
         from sheet.old sheet.new (mailboxes_in pendings.new dones.new fulls.new) result }
@@ -109,7 +109,7 @@ fn turn_one(
     requires controller_bound { (controller < 2 ^ 32) × (controller < length modes.old) × Alike modes.old requests.old marks.old }
     requires count_in_bounds { (count ≤ length owners.now) × (count ≤ length pendings.old) × Alike pendings.old dones.old fulls.old }
     requires lent { Lent size count ram.now }
-    requires words_each_in_bounds { words_each * (from + busy_count count (mailboxes_in pendings.old dones.old fulls.old)) + words_each ≤ length sheet.old }
+    requires sheet_room { words_each * (from + busy_count count (mailboxes_in pendings.old dones.old fulls.old)) + words_each ≤ length sheet.old }
     ensures { (owned : List Owner) → Owned owned owners.now
         → Turned (turn_of turn) size owned count ram.now controller
         (controllers_in modes.old requests.old marks.old)
@@ -149,7 +149,7 @@ pub fn turn_all(
     requires total_bound { (total ≤ 2 ^ 32) × (total ≤ length modes.old) × Alike modes.old requests.old marks.old }
     requires count_in_bounds { (count ≤ length owners.now) × (count ≤ length pendings.old) × Alike pendings.old dones.old fulls.old }
     requires lent { Lent size count ram.now }
-    requires count_in_bounds_2 { words_each * (total + count) ≤ length sheet.old }
+    requires sheet_room { words_each * (total + count) ≤ length sheet.old }
     ensures { (core : Core)
         → Holds core total count owners.now
         (controllers_in modes.old requests.old marks.old)

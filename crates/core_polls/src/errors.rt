@@ -20,8 +20,8 @@ fn errors_one(
     tx_errors: &mut [u32],
     rx_errors: &mut [u32],
 )
-    requires c_in_bounds { (c < length modes.now) × Alike modes.now requests.now marks.now }
-    requires c_in_bounds_2 { (c < length recoverings.old) × Alike recoverings.old tx_errors.old rx_errors.old }
+    requires controller_in_bounds { (c < length modes.now) × Alike modes.now requests.now marks.now }
+    requires errors_in_bounds { (c < length recoverings.old) × Alike recoverings.old tx_errors.old rx_errors.old }
     ensures { errors_in recoverings.new tx_errors.new rx_errors.new
         ≡ rules.errors_one (turn_of turn) (controllers_in modes.now requests.now marks.now) c
         (errors_in recoverings.old tx_errors.old rx_errors.old) }
@@ -51,7 +51,7 @@ pub fn errors_all(
     rx_errors: &mut [u32],
 )
     requires total_in_bounds { (total ≤ length modes.now) × Alike modes.now requests.now marks.now }
-    requires total_in_bounds_2 { (total ≤ length recoverings.old) × Alike recoverings.old tx_errors.old rx_errors.old }
+    requires errors_in_bounds { (total ≤ length recoverings.old) × Alike recoverings.old tx_errors.old rx_errors.old }
     ensures { errors_in recoverings.new tx_errors.new rx_errors.new
         ≡ rules.errors_all (turn_of turn) total (controllers_in modes.now requests.now marks.now)
         (errors_in recoverings.old tx_errors.old rx_errors.old) }

@@ -34,7 +34,7 @@ fn free_object(
     sheet: &mut [u32],
 ) -> usize
     requires object_in_bounds { (object < length pendings.old) × Alike pendings.old dones.old fulls.old }
-    requires words_each_in_bounds { words_each * told + words_each ≤ length sheet.old }
+    requires sheet_room { words_each * told + words_each ≤ length sheet.old }
     ensures { Freed (view n) object
         (mailboxes_in pendings.old dones.old fulls.old)
         (mailboxes_in pendings.new dones.new fulls.new)
@@ -60,7 +60,7 @@ fn visit_one(
 ) -> usize
     requires object_in_bounds { (object < length pendings.old) × Alike pendings.old dones.old fulls.old }
     requires object_bound { (object < 2 ^ 32) × (head_size ≤ size) × (size * object + size ≤ length ram.now) }
-    requires words_each_in_bounds { mailbox_busy (mailbox_at (mailboxes_in pendings.old dones.old fulls.old) object) ≡ true → words_each * told + words_each ≤ length sheet.old }
+    requires sheet_room { mailbox_busy (mailbox_at (mailboxes_in pendings.old dones.old fulls.old) object) ≡ true → words_each * told + words_each ≤ length sheet.old }
     ensures { (owners : List Owner) → (owner_at owners object).controller ≡ owner
         → Visited (visit_of visit size two_bytes owners ram.now) object
         (mailboxes_in pendings.old dones.old fulls.old)
@@ -92,7 +92,7 @@ pub fn visit_all(
 ) -> usize
     requires count_in_bounds { (count ≤ length owners.now) × (count ≤ length pendings.old) × Alike pendings.old dones.old fulls.old }
     requires lent { Lent size count ram.now }
-    requires fulls_in_bounds { words_each * (from + busy_count count (mailboxes_in pendings.old dones.old fulls.old)) ≤ length sheet.old }
+    requires sheet_room { words_each * (from + busy_count count (mailboxes_in pendings.old dones.old fulls.old)) ≤ length sheet.old }
     ensures { (owned : List Owner) → Owned owned owners.now
         → Swept (rules.visit_all (visit_of visit size two_bytes owned ram.now) count
         (boxes_from (mailboxes_in pendings.old dones.old fulls.old)))

@@ -11,14 +11,13 @@ loop-c-init c = turns_begin _ _ _ _ _ _ _ _ _ _ _ _ _
 pub turn_one-told-requires : goal.turn_one-told-requires
 turn_one-told-requires c =
     let at = c.loop-c in
-    let pre = c.requires in
-    let room = turn_room at.invariant pre.1.1.1 in
-    let inside : at.c < c.args.total = omega arith in record { controller_bound = (omega arith, omega arith, record { second = at.invariant.same_requests ∙ pre.0.2.second ∙ sym at.invariant.same_modes; third = at.invariant.same_marks ∙ pre.0.2.third ∙ sym at.invariant.same_modes }); count_in_bounds = (pre.1.0.0, omega arith, record { second = at.invariant.same_dones ∙ pre.1.0.2.second ∙ sym at.invariant.same_pendings; third = at.invariant.same_fulls ∙ pre.1.0.2.third ∙ sym at.invariant.same_pendings }); lent = pre.1.1.0; words_each_in_bounds = omega arith }
+    let room = turn_room at.invariant c.requires.sheet_room in
+    let inside : at.c < c.args.total = omega arith in record { controller_bound = (omega arith, omega arith, record { second = at.invariant.same_requests ∙ c.requires.total_bound.2.second ∙ sym at.invariant.same_modes; third = at.invariant.same_marks ∙ c.requires.total_bound.2.third ∙ sym at.invariant.same_modes }); count_in_bounds = (c.requires.count_in_bounds.0, omega arith, record { second = at.invariant.same_dones ∙ c.requires.count_in_bounds.2.second ∙ sym at.invariant.same_pendings; third = at.invariant.same_fulls ∙ c.requires.count_in_bounds.2.third ∙ sym at.invariant.same_pendings }); lent = c.requires.lent; sheet_room = omega arith }
 
 pub loop-c-preserved : goal.loop-c-preserved
 loop-c-preserved c =
     let at = c.loop-c in
-    turns_go_on at.invariant c.requires.count_in_bounds_2 (omega arith) c.turn_one-told.ensures c.turn_one-told.auto.modes c.turn_one-told.auto.requests c.turn_one-told.auto.marks c.turn_one-told.auto.pendings c.turn_one-told.auto.dones c.turn_one-told.auto.fulls c.turn_one-told.auto.sheet
+    turns_go_on at.invariant c.requires.sheet_room (omega arith) c.turn_one-told.ensures c.turn_one-told.auto.modes c.turn_one-told.auto.requests c.turn_one-told.auto.marks c.turn_one-told.auto.pendings c.turn_one-told.auto.dones c.turn_one-told.auto.fulls c.turn_one-told.auto.sheet
 
 pub shape_of-modes : goal.shape_of-modes
 shape_of-modes c = c.loop-c.invariant.same_modes
@@ -42,4 +41,4 @@ pub shape_of-sheet : goal.shape_of-sheet
 shape_of-sheet c = c.loop-c.invariant.same_sheet
 
 pub returns : goal.returns
-returns c = turns_end c.loop-c.invariant c.requires.count_in_bounds_2 (omega arith)
+returns c = turns_end c.loop-c.invariant c.requires.sheet_room (omega arith)

@@ -8,7 +8,7 @@ use Rattle.core_polls.proofs.controllers.turn_one.Goals as goal
 
 pub tell_turn-requires : goal.tell_turn-requires
 tell_turn-requires c =
-    record { controller_bound = (c.requires.controller_bound.0, c.requires.count_in_bounds.0, c.requires.count_in_bounds.1, c.requires.count_in_bounds.2); lent = c.requires.lent; words_each_in_bounds = c.requires.words_each_in_bounds }
+    record { controller_bound = (c.requires.controller_bound.0, c.requires.count_in_bounds.0, c.requires.count_in_bounds.1, c.requires.count_in_bounds.2); lent = c.requires.lent; sheet_room = c.requires.sheet_room }
 
 pub returns-then-turn_due : goal.returns-then-turn_due
 returns-then-turn_due c owned e =

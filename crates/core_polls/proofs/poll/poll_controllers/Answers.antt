@@ -11,20 +11,20 @@ use Rattle.core_polls.proofs.poll.poll_controllers.Goals as goal
 
 pub errors_all-requires : goal.errors_all-requires
 errors_all-requires c =
-    let passed : verdict_reason c.args.gate ≡ 0 = rw c.enum_told-1.given.1 in
+    let passed : verdict_reason c.args.gate ≡ 0 = rw c.in-Accepted.is in
     let room = c.requires.total_in_bounds passed in
-    record { total_in_bounds = (room.1.controllers_fit, c.requires.alike.0); total_in_bounds_2 = (room.0, c.requires.alike.1) }
+    record { total_in_bounds = (room.1.controllers_fit, c.requires.alike.0); errors_in_bounds = (room.0, c.requires.alike.1) }
 
 pub turn_all-told-requires : goal.turn_all-told-requires
 turn_all-told-requires c =
-    let passed : verdict_reason c.args.gate ≡ 0 = rw c.enum_told-1.given.1 in
+    let passed : verdict_reason c.args.gate ≡ 0 = rw c.in-Accepted.is in
     let room = (c.requires.total_in_bounds passed).1 in
-    record { total_bound = (room.numbered, room.controllers_fit, c.requires.alike.0); count_in_bounds = (room.placed.owners_fit, room.placed.mailboxes_fit, c.requires.alike.2); lent = room.lent; count_in_bounds_2 = room.sheet_fits }
+    record { total_bound = (room.numbered, room.controllers_fit, c.requires.alike.0); count_in_bounds = (room.placed.owners_fit, room.placed.mailboxes_fit, c.requires.alike.2); lent = room.lent; sheet_room = room.sheet_fits }
 
 pub returns-in-Accepted : goal.returns-in-Accepted
 returns-in-Accepted c core h errors =
     let a = c.args in
-    let passed : verdict_reason a.gate ≡ 0 = rw c.enum_told-1.given.1 in
+    let passed : verdict_reason a.gate ≡ 0 = rw c.in-Accepted.is in
     controllers_passed (verdict_reason a.gate) core a.ram.now a.size (turn_of a.turn) passed (c.turn_all-told.ensures core h)
     (rw (h.controllers_used, h.controllers_are, errors) c.errors_all.ensures)
 

@@ -18,7 +18,7 @@ visit_all-told-requires c =
     let passed : verdict_reason a.gate ≡ 0 = rw c.in-Accepted.is in
     let most = count_limit a.count (λ h. mailbox_busy (mailbox_at (mailboxes_in a.pendings.now a.dones.now a.fulls.now) h)) in
     let room = c.requires.object_room passed in
-    record { count_in_bounds = (room.placed.owners_fit, room.placed.mailboxes_fit, c.requires.alike); lent = room.lent; fulls_in_bounds = omega (arith, room.sheet_fits) }
+    record { count_in_bounds = (room.placed.owners_fit, room.placed.mailboxes_fit, c.requires.alike); lent = room.lent; sheet_room = omega (arith, room.sheet_fits) }
 
 pub returns-in-Accepted : goal.returns-in-Accepted
 returns-in-Accepted c core h =

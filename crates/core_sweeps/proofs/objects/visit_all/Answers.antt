@@ -12,12 +12,12 @@ visit_one-told-requires c =
     let at = c.loop-h in
     let a = c.args in
     let lent = c.requires.lent in
-    let inside : at.h < a.count = omega arith in record { object_in_bounds = (omega arith, record { second = at.invariant.same_dones ∙ c.requires.count_in_bounds.2.second ∙ sym at.invariant.same_pendings; third = at.invariant.same_fulls ∙ c.requires.count_in_bounds.2.third ∙ sym at.invariant.same_pendings }); object_bound = (omega arith, lent.head_fits, object_within a.size at.h a.count a.ram.now inside lent.objects_fit); words_each_in_bounds = busy_room at.invariant c.requires.fulls_in_bounds inside }
+    let inside : at.h < a.count = omega arith in record { object_in_bounds = (omega arith, record { second = at.invariant.same_dones ∙ c.requires.count_in_bounds.2.second ∙ sym at.invariant.same_pendings; third = at.invariant.same_fulls ∙ c.requires.count_in_bounds.2.third ∙ sym at.invariant.same_pendings }); object_bound = (omega arith, lent.head_fits, object_within a.size at.h a.count a.ram.now inside lent.objects_fit); sheet_room = busy_room at.invariant c.requires.sheet_room inside }
 
 pub loop-h-preserved : goal.loop-h-preserved
 loop-h-preserved c =
     let at = c.loop-h in
-    sweep_goes_on at.invariant c.requires.fulls_in_bounds (omega arith) c.visit_one-told.ensures c.visit_one-told.auto.pendings c.visit_one-told.auto.dones c.visit_one-told.auto.fulls c.visit_one-told.auto.sheet
+    sweep_goes_on at.invariant c.requires.sheet_room (omega arith) c.visit_one-told.ensures c.visit_one-told.auto.pendings c.visit_one-told.auto.dones c.visit_one-told.auto.fulls c.visit_one-told.auto.sheet
 
 pub shape_of-pendings : goal.shape_of-pendings
 shape_of-pendings c = c.loop-h.invariant.same_pendings
@@ -32,4 +32,4 @@ pub shape_of-sheet : goal.shape_of-sheet
 shape_of-sheet c = c.loop-h.invariant.same_sheet
 
 pub returns : goal.returns
-returns c = sweep_ends c.loop-h.invariant c.requires.fulls_in_bounds (omega arith)
+returns c = sweep_ends c.loop-h.invariant c.requires.sheet_room (omega arith)

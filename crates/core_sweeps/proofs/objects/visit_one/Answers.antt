@@ -15,7 +15,7 @@ free_object-requires c =
     let owners : List Owner = record { controller = a.owner; receiving = false; pool = 0 } ∷ [] in
     let due = sym (c.visit_due.ensures a.size a.two_bytes owners a.ram.now 0 refl) ∙ c.if-visit_due.true in
     let busy = sym (ap mailbox_busy c.read_mailbox-m.ensures) ∙ visit_frees a.visit a.size a.two_bytes owners a.ram.now 0 _ due in
-    record { object_in_bounds = c.requires.object_in_bounds; words_each_in_bounds = c.requires.words_each_in_bounds busy }
+    record { object_in_bounds = c.requires.object_in_bounds; sheet_room = c.requires.sheet_room busy }
 
 pub returns-then-visit_due : goal.returns-then-visit_due
 returns-then-visit_due c owners e =
