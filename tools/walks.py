@@ -281,7 +281,7 @@ def with_helpers(body, helpers, info, at):
                 text = re.sub(r"\(" + re.escape(n) + r" ([^()]+)\)", r"\1", text)
                 text = re.sub(r"(?<![\w.'-])" + re.escape(n) + r" (c[\w.'-]*)", r"\1", text)
         text = turn_paths(text, info, at)
-        text = re.sub(r"\(not-(?:true|false) \S+ (c\.if-not-[\w.-]+)\)", r"\1", text)
+        text = re.sub(r"\(not[-_](?:true|false) \S+ (c\.if-not-[\w.-]+)\)", r"\1", text)
         for n in helpers:
             text = re.sub(r"\(" + re.escape(n) + r" c\)", n, text)
             text = re.sub(r"(?<![\w.'-])" + re.escape(n) + r" c(?![\w.'-])", n, text)

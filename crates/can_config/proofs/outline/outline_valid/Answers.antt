@@ -1,0 +1,6 @@
+-- The tests are those of the functions that are called.
+use borrow.Author.Rules.{rules}
+use Rattle.can_config.proofs.outline.outline_valid.Goals as goal
+
+pub returns : goal.returns
+returns c = rw (c.header_matches-header.ensures, c.counts_valid-counts.ensures)
