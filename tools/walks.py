@@ -130,7 +130,11 @@ def commas(text):
 PATH = re.compile(r"(?<![\w.'-])c((?:\.[^\s(){}\[\],;.:]+)+)")
 
 
+KEYWORD = re.compile(r"\b((?:rw|simp) (?:\((?:[^()]|\((?:[^()]|\([^()]*\))*\))*\)|[^\s()]+)) at ")
+
+
 def aliases(body):
+    body = KEYWORD.sub(r"\1 @ ", body)
     # a name for the record of an earlier place is written out
     while True:
         m = re.search(r"let (\S+) = (c(?:\.before)*(?:\.[\w-]+\.given)?) in\s*", body)
@@ -141,7 +145,7 @@ def aliases(body):
         if re.search(r"(?<![\w.'-])" + re.escape(m.group(1)) + r"\.(auto|given)(?![\w-])", body) or m.group(2).endswith((".requires", ".pre")):
             body = body.replace(m.group(0), "", 1)
             body = re.sub(r"(?<![\w.'-])" + re.escape(m.group(1)) + r"(?![\w'-])", m.group(2), body)
-    return body
+    return body.replace(" @ ", " at ")
 
 
 def turn_paths(body, info, at):
@@ -179,6 +183,8 @@ def turn_paths(body, info, at):
             if "-" in parts[0]:
                 parts[0] = parts[0].replace("-", "_")
         fields = (info.get("pre") or {}).get("fields") or []
+        if parts[0] == "good":
+            parts[0] = "well_formed"
         if parts[0] == "pre":
             parts[0] = "requires"
         if parts[0] == "requires" and len(fields) > 1:
@@ -192,6 +198,8 @@ def turn_paths(body, info, at):
                 i += 1
             if i < len(parts) and parts[i] == "0" and i - 2 < len(params):
                 parts = parts[:2] + [params[i - 2]] + parts[i + 1 :]
+        if len(parts) > 1 and (first.startswith("loop") or first.startswith("if") or first.endswith("_test")):
+            parts[1] = {"inv": "invariant", "taken": "true", "left": "false"}.get(parts[1], parts[1])
         if parts[0] in ("args", "ranges") and len(parts) > 1:
             name = parts[1].replace("-", "_")
             parts[1] = moved.get(name, name)
@@ -268,6 +276,35 @@ class Helper:
         self.ok = True
 
 
+MODULE = re.compile(r"(?s)((?:--[^\n]*\n)*)module _ \((\S+) : tie\.[^()]+\) where\n(.*)")
+
+
+def members(block):
+    """The definitions of a module over a place, as helpers, or nothing where one of them is not read."""
+    m = MODULE.match(block)
+    if not m:
+        return []
+    var, found = m.group(2), []
+    text = re.sub(r"(?m)^  ", "", m.group(3))
+    for b in blocks(text):
+        d = re.match(r"(?s)((?:--[^\n]*\n)*)(?:abbrev )?(\S+) :(.*?)\n((?:unfolding [^\n]*\n)?)\2((?: +[^\s=]+)*)\s*=\s*(.*)\Z", b)
+        if not d:
+            return []
+        h = Helper.__new__(Helper)
+        h.comment, h.name = d.group(1), d.group(2)
+        swap = lambda t: re.sub(r"(?<![\w.'-])" + re.escape(var) + r"(?![\w'-])", "c", t)
+        h.type, h.unfolding, h.given, h.body = swap(d.group(3).strip()), d.group(4).split()[1:], d.group(5).split(), swap(d.group(6).strip())
+        h.ok, h.moves, h.bare = True, False, True
+        h.moves = not h.given and bool(re.fullmatch(r"c(?:\.before)*", h.body))
+        found.append(h)
+    for _ in found:
+        for h in found:
+            for k in found:
+                if k.moves and not h.moves and not h.given:
+                    h.moves = bool(re.fullmatch(re.escape(k.name) + r"(?:\.before)*", h.body))
+    return found
+
+
 def with_helpers(body, helpers, info, at):
     """The body with what it uses of the helpers in front, each a `let`, and the names that they unfold."""
     movers = [h.name for h in helpers.values() if h.moves]
@@ -280,8 +317,12 @@ def with_helpers(body, helpers, info, at):
             for n in movers:
                 text = re.sub(r"\(" + re.escape(n) + r" ([^()]+)\)", r"\1", text)
                 text = re.sub(r"(?<![\w.'-])" + re.escape(n) + r" (c[\w.'-]*)", r"\1", text)
+                if getattr(helpers[n], "bare", False):
+                    text = re.sub(r"(?<![\w.'-])" + re.escape(n) + r"(?=\.)", "c", text)
         text = turn_paths(text, info, at)
-        text = re.sub(r"\(not[-_](?:true|false) \S+ (c\.if-not-[\w.-]+)\)", r"\1", text)
+        argument = r"(?:\((?:[^()]|\([^()]*\))*\)|[^\s()]+)"
+        text = re.sub(r"\(not[-_](?:true|false) " + argument + r" (c\.if-not-[\w.-]+)\)", r"\1", text)
+        text = re.sub(r"(?<![\w.'-])not[-_](?:true|false) " + argument + r" (c\.if-not-[\w.-]+)", r"\1", text)
         for n in helpers:
             text = re.sub(r"\(" + re.escape(n) + r" c\)", n, text)
             text = re.sub(r"(?<![\w.'-])" + re.escape(n) + r" c(?![\w.'-])", n, text)
@@ -354,6 +395,11 @@ def convert(crate, key, info, folder, report):
         notes.append(f"{len(asked)} goals, now {len(needs)}")
     helpers, still = {}, []
     for b in kept:
+        inner = members(b)
+        if inner:
+            for h in inner:
+                helpers[h.name] = h
+            continue
         h = Helper(b)
         if h.ok:
             helpers[h.name] = h
