@@ -1,0 +1,14 @@
+-- The loop's invariant: the objects below h are compared.
+use Prim.Native.Nat.{◌-◌}
+use mathlib.Core.Path.{sym, ◌∙◌}
+use mathlib.Core.Logic.{⊎_elim}
+use native.Mathlib.Omega.{arith}
+use borrow.Author.Rules.{rules}
+use Rattle.can_arbitration.proofs.Choices.{Choosing, choice_begins, choice_goes_on, choice_ends}
+use Rattle.can_arbitration.proofs.choice.choose.Given as goal
+
+abbrev pub invariant-loop-h : goal.invariant-loop-h
+invariant-loop-h l = Choosing l.controller l.count l.owners l.pendings l.dones l.fulls l.ram l.best l.h
+
+abbrev pub decreases-loop-h : goal.decreases-loop-h
+decreases-loop-h l = l.count - l.h
