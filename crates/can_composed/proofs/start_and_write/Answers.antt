@@ -1,0 +1,35 @@
+-- `can_composed::start_and_write` meets its contract: each call is handed the state and the memory that the last one left, and what it
+-- then leaves is its outcome, so the four contracts make up the list's. No call changes the length of the sheet.
+use borrow.Author.Rules.{rules}
+use native.Mathlib.Omega.{arith}
+use mathlib.Core.Path.{◌≡◌, ap, ◌∙◌}
+use lib.ListN.{length}
+use Rattle.rules.specs.Can.{can_format}
+use Rattle.rules.specs.Chip.{chip}
+use Rattle.rules.specs.State.{State}
+use Rattle.rules.specs.Outcome.{Outcome}
+use Rattle.history.specs.Call.{performed}
+use Rattle.history.specs.Trace.{left_by}
+use Rattle.can_state.specs.View.{view}
+use Rattle.can_composed.proofs.Laws.{same_write}
+use Rattle.can_composed.proofs.start_and_write.Goals as goal
+
+pub shape_of-ram : goal.shape_of-ram
+shape_of-ram c = omega (arith, c.write-written.auto, c.init-called.auto)
+
+pub shape_of-sheet : goal.shape_of-sheet
+shape_of-sheet c = omega (arith, c.write-written.auto, c.main_function_mode-polled.auto, c.set_controller_mode-asked.auto, c.init-called.auto)
+
+pub returns : goal.returns
+unfolding left_by performed
+returns c fits =
+    let given = c.args in
+    let first = c.initial_state in
+    let written = c.write-written in
+    let same =
+    same_write chip can_format (length given.sheet.now) (length c.init-called.new.1.1.0) (length c.set_controller_mode-asked.new.1.0) (length c.main_function_mode-polled.new.1.1.0) 0 1 given.object given.handle
+    (record { identifier = given.identifier; sdu = given.sdu.now }) given.bytes.now given.ram.now c.init-called.new.1.0 written.new.1.0
+    (view first.result) (view c.init-called.result.state) (view c.set_controller_mode-asked.result.state) (view c.main_function_mode-polled.result.state) (view written.result.state)
+    first.ensures (omega (arith, c.init-called.auto)) (omega (arith, c.init-called.auto, c.set_controller_mode-asked.auto)) (omega (arith, c.init-called.auto, c.set_controller_mode-asked.auto, c.main_function_mode-polled.auto))
+    c.init-called.ensures.state_is c.init-called.ensures.ram_is c.set_controller_mode-asked.ensures.state_is c.main_function_mode-polled.ensures.state_is in
+    record { state_is = written.ensures.state_is ∙ ap (λ (o : Outcome (State can_format)). o.state) same; ram_is = written.ensures.ram_is ∙ ap (λ (o : Outcome (State can_format)). o.ram) same }
