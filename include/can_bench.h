@@ -1,7 +1,8 @@
 /*
  * can_bench.h: the two questions that C firmware asks of the CAN driver.
  *
- * Link with libc_abi.a, which `rt staticlib c_abi` writes to target/staticlib/.
+ * Link with libc_abi.a, which `rt lib`, run in crates/c_abi, writes to
+ * crates/c_abi/out/.
  *
  * Both functions take and answer plain numbers. Each answers as said here for
  * every value of every argument, so the caller checks nothing first. They keep
