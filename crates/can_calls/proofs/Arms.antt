@@ -1,67 +1,56 @@
--- What an arm of a match knows: its function is one of those at the arm's places in the list of all. What is to be shown of such a
--- function is a test on each of the places, which computes.
+-- What the last arm of a match knows: its function is none of those that earlier arms took, so that it is the one of its kind that is left, or
+-- of the kind that is left.
 use Prim.Native.Nat.{ℕ}
-use mathlib.Core.Path.{◌≡◌, refl, ap, sym, ◌∙◌}
-use mathlib.Core.Bool.{Bool, true, not, ◌&&◌, ◌||◌}
-use mathlib.Core.List.{List, [], ◌∷◌}
-use mathlib.Core.Logic.{inl, inr}
-use lib.ListN.{get_or}
-use lib.Dec.{eqb}
-use borrow.Author.Tests.{eq-eqb, eqb-true}
-use denote.Enum.Declared.{tag_of}
-use types.Run.{OneOf}
-use Rattle.laws.proofs.Tests.{left, right}
-use Rattle.can_calls.specs.Request.{kind}
+use mathlib.Core.Path.{◌≡◌, refl, ap}
+use mathlib.Core.Logic.{◌⊎◌, inl, inr}
+use native.Mathlib.Omega.{arith}
+use Rattle.can_calls.specs.Request.{kind, SERVICE, POLL, EVENT}
 use Rattle.can_calls.specs.declared.request.Function.{Function}
 use Rattle.can_calls.specs.declared.request.Function.TheVariants.{Init, DeInit, Set, Get, ErrorState, RxErrors, TxErrors, Write, PollWrite, PollRead, PollMode, PollBusOff, Sent, BusOff, ErrorCounts, Arrived, Next}
-use Rattle.can_calls.specs.contracts.request.Function.{the_type}
 
--- the function at a place
-abbrev pub at : ℕ → Function
-at n = get_or (Init ∷ DeInit ∷ Set ∷ Get ∷ ErrorState ∷ RxErrors ∷ TxErrors ∷ Write ∷ PollWrite ∷ PollRead ∷ PollMode ∷ PollBusOff ∷ Sent ∷ BusOff ∷ ErrorCounts ∷ Arrived ∷ Next ∷ []) n Init
+-- the functions of an arm that names four of them are of one kind
+pub kind_of_four : (f a b c d : Function) (m : ℕ) → kind a ≡ m → kind b ≡ m → kind c ≡ m → kind d ≡ m → (f ≡ a) ⊎ ((f ≡ b) ⊎ ((f ≡ c) ⊎ (f ≡ d))) → kind f ≡ m
+kind_of_four f a b c d m p q r s (inl e) = rw e p
+kind_of_four f a b c d m p q r s (inr (inl e)) = rw e q
+kind_of_four f a b c d m p q r s (inr (inr (inl e))) = rw e r
+kind_of_four f a b c d m p q r s (inr (inr (inr e))) = rw e s
 
-at_place : (f : Function) → at (tag_of the_type f) ≡ f
-at_place Init = refl
-at_place DeInit = refl
-at_place Set = refl
-at_place Get = refl
-at_place ErrorState = refl
-at_place RxErrors = refl
-at_place TxErrors = refl
-at_place Write = refl
-at_place PollWrite = refl
-at_place PollRead = refl
-at_place PollMode = refl
-at_place PollBusOff = refl
-at_place Sent = refl
-at_place BusOff = refl
-at_place ErrorCounts = refl
-at_place Arrived = refl
-at_place Next = refl
+-- neither a poll nor an event, and not the question of who sends next
+pub is_service : (f : Function) → (f ≡ PollWrite → ⊥) → (f ≡ PollRead → ⊥) → (f ≡ PollMode → ⊥) → (f ≡ PollBusOff → ⊥)
+    → (f ≡ Sent → ⊥) → (f ≡ BusOff → ⊥) → (f ≡ ErrorCounts → ⊥) → (f ≡ Arrived → ⊥) → (f ≡ Next → ⊥) → kind f ≡ SERVICE
+is_service PollWrite a b c d e g h i j = absurd (a refl)
+is_service PollRead a b c d e g h i j = absurd (b refl)
+is_service PollMode a b c d e g h i j = absurd (c refl)
+is_service PollBusOff a b c d e g h i j = absurd (d refl)
+is_service Sent a b c d e g h i j = absurd (e refl)
+is_service BusOff a b c d e g h i j = absurd (g refl)
+is_service ErrorCounts a b c d e g h i j = absurd (h refl)
+is_service Arrived a b c d e g h i j = absurd (i refl)
+is_service Next a b c d e g h i j = absurd (j refl)
+is_service _ a b c d e g h i j = refl
 
-abbrev pub every : (ℕ → Bool) → List ℕ → Bool
-every P [] = true
-every P (k ∷ ks) = P k && every P ks
+pub last_service : (f : Function) → kind f ≡ SERVICE → (f ≡ Init → ⊥) → (f ≡ DeInit → ⊥) → (f ≡ Set → ⊥) → (f ≡ Get → ⊥) → (f ≡ ErrorState → ⊥)
+    → (f ≡ RxErrors → ⊥) → (f ≡ TxErrors → ⊥) → f ≡ Write
+last_service Init k a b c d e g h = absurd (a refl)
+last_service DeInit k a b c d e g h = absurd (b refl)
+last_service Set k a b c d e g h = absurd (c refl)
+last_service Get k a b c d e g h = absurd (d refl)
+last_service ErrorState k a b c d e g h = absurd (e refl)
+last_service RxErrors k a b c d e g h = absurd (g refl)
+last_service TxErrors k a b c d e g h = absurd (h refl)
+last_service Write k a b c d e g h = refl
+last_service _ k a b c d e g h = absurd (omega arith)
 
--- a test that holds at every place of a list holds at one of them
-holds : (P : ℕ → Bool) (ks : List ℕ) (x : ℕ) → every P ks ≡ true → OneOf ks x → P x ≡ true
-holds P [] x all one = absurd one
-holds P (k ∷ []) x all e = ap P e ∙ left (P k) true all
-holds P (k ∷ k' ∷ ks) x all (inl e) = ap P e ∙ left (P k) (every P (k' ∷ ks)) all
-holds P (k ∷ k' ∷ ks) x all (inr one) = holds P (k' ∷ ks) x (right (P k) (every P (k' ∷ ks)) all) one
+pub last_poll : (f : Function) → kind f ≡ POLL → (f ≡ PollWrite → ⊥) → (f ≡ PollRead → ⊥) → (f ≡ PollMode → ⊥) → f ≡ PollBusOff
+last_poll PollWrite k a b c = absurd (a refl)
+last_poll PollRead k a b c = absurd (b refl)
+last_poll PollMode k a b c = absurd (c refl)
+last_poll PollBusOff k a b c = refl
+last_poll _ k a b c = absurd (omega arith)
 
--- what holds of each of an arm's functions holds of the one that took it
-pub each : (P : Function → Bool) (f : Function) (ks : List ℕ) → OneOf ks (tag_of the_type f) → every (λ n. P (at n)) ks ≡ true → P f ≡ true
-each P f ks one all = ap P (sym (at_place f)) ∙ holds (λ n. P (at n)) ks (tag_of the_type f) all one
-
-module _ (f : Function) (m : ℕ) (ks : List ℕ) (one : OneOf ks (tag_of the_type f)) where
-  -- all of an arm's functions are of one kind
-  pub of_kind : every (λ n. eqb (kind (at n)) m) ks ≡ true → kind f ≡ m
-  of_kind all = eqb-true (kind f) m (each (λ g. eqb (kind g) m) f ks one all)
-
-  -- only one of an arm's functions is of the kind
-  pub only : (g : ℕ) → every (λ n. not (eqb (kind (at n)) m) || eqb n g) ks ≡ true → kind f ≡ m → f ≡ at g
-  only g all e = sym (at_place f) ∙ ap at (eqb-true (tag_of the_type f) g same)
-    where
-      same : eqb (tag_of the_type f) g ≡ true
-      same = rw (eq-eqb (kind (at (tag_of the_type f))) m (ap kind (at_place f) ∙ e)) at (holds (λ n. not (eqb (kind (at n)) m) || eqb n g) ks (tag_of the_type f) all one)
+pub last_event : (f : Function) → kind f ≡ EVENT → (f ≡ Sent → ⊥) → (f ≡ BusOff → ⊥) → (f ≡ ErrorCounts → ⊥) → f ≡ Arrived
+last_event Sent k a b c = absurd (a refl)
+last_event BusOff k a b c = absurd (b refl)
+last_event ErrorCounts k a b c = absurd (c refl)
+last_event Arrived k a b c = refl
+last_event _ k a b c = absurd (omega arith)

@@ -7,7 +7,7 @@ use lib.ListN.{length}
 use Rattle.can_state.specs.View.{view}
 use Rattle.can_calls.specs.Request.{EVENT, outcome_of}
 use Rattle.can_calls.proofs.Laws.{told, sent_keeps, bus_off_keeps, counted_keeps}
-use Rattle.can_calls.proofs.Arms.{only}
+use Rattle.can_calls.proofs.Arms.{last_event}
 use Rattle.can_calls.proofs.perform.event.Goals as goal
 
 pub returns-in-Sent : goal.returns-in-Sent
@@ -38,5 +38,4 @@ returns-in-ErrorCounts c =
 pub returns-in_default : goal.returns-in_default
 unfolding outcome_of
 returns-in_default c =
-    rw (only c.args.request.function EVENT (0 ∷ 1 ∷ 2 ∷ 3 ∷ 4 ∷ 5 ∷ 6 ∷ 7 ∷ 8 ∷ 9 ∷ 10 ∷ 11 ∷ 15 ∷ 16 ∷ []) c.in_default.keys4 15 refl c.requires)
-    c.arrived.ensures
+    rw (last_event c.args.request.function c.requires c.in_default.not-Sent c.in_default.not-BusOff c.in_default.not-ErrorCounts) c.arrived.ensures

@@ -6,20 +6,21 @@ use mathlib.Core.List.{[], ◌∷◌}
 use Rattle.can_state.specs.View.{view}
 use Rattle.can_calls.specs.Request.{SERVICE, POLL, EVENT, outcome_of}
 use Rattle.can_calls.proofs.Laws.{next_keeps}
-use Rattle.can_calls.proofs.Arms.{of_kind}
+use Rattle.can_calls.specs.declared.request.Function.TheVariants.{PollWrite, PollRead, PollMode, PollBusOff, Sent, BusOff, ErrorCounts, Arrived}
+use Rattle.can_calls.proofs.Arms.{kind_of_four, is_service}
 use Rattle.can_calls.proofs.perform.perform.Goals as goal
 
 pub event-requires : goal.event-requires
 event-requires c =
-    of_kind c.args.request.function EVENT (12 ∷ 13 ∷ 14 ∷ 15 ∷ []) c.in-Sent.keys1 refl
+    kind_of_four c.args.request.function Sent BusOff ErrorCounts Arrived EVENT refl refl refl refl c.in-Sent.is
 
 pub poll-requires : goal.poll-requires
 poll-requires c =
-    of_kind c.args.request.function POLL (8 ∷ 9 ∷ 10 ∷ 11 ∷ []) c.in-PollWrite.keys2 refl
+    kind_of_four c.args.request.function PollWrite PollRead PollMode PollBusOff POLL refl refl refl refl c.in-PollWrite.is
 
 pub service-requires : goal.service-requires
 service-requires c =
-    of_kind c.args.request.function SERVICE (0 ∷ 1 ∷ 2 ∷ 3 ∷ 4 ∷ 5 ∷ 6 ∷ 7 ∷ []) c.in_default.keys4 refl
+    is_service c.args.request.function c.in_default.not-PollWrite c.in_default.not-PollRead c.in_default.not-PollMode c.in_default.not-PollBusOff c.in_default.not-Sent c.in_default.not-BusOff c.in_default.not-ErrorCounts c.in_default.not-Arrived c.in_default.not-Next
 
 pub returns-in-Next : goal.returns-in-Next
 unfolding outcome_of

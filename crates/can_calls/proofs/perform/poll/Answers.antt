@@ -4,7 +4,7 @@ use mathlib.Core.Path.{refl}
 use mathlib.Core.List.{[], ◌∷◌}
 use Rattle.can_calls.specs.Request.{POLL, outcome_of}
 use Rattle.can_calls.proofs.Laws.{told}
-use Rattle.can_calls.proofs.Arms.{only}
+use Rattle.can_calls.proofs.Arms.{last_poll}
 use Rattle.can_calls.proofs.perform.poll.Goals as goal
 
 pub returns-in-PollWrite : goal.returns-in-PollWrite
@@ -28,5 +28,5 @@ returns-in-PollMode c =
 pub returns-in_default : goal.returns-in_default
 unfolding outcome_of
 returns-in_default c =
-    rw (only c.args.request.function POLL (0 ∷ 1 ∷ 2 ∷ 3 ∷ 4 ∷ 5 ∷ 6 ∷ 7 ∷ 11 ∷ 12 ∷ 13 ∷ 14 ∷ 15 ∷ 16 ∷ []) c.in_default.keys4 11 refl c.requires)
+    rw (last_poll c.args.request.function c.requires c.in_default.not-PollWrite c.in_default.not-PollRead c.in_default.not-PollMode)
     (told c.with_verdict-in_default.ensures c.main_function_bus_off.ensures)

@@ -8,7 +8,7 @@ use Rattle.rules.specs.Outcome.{of_mode, of_error_state, of_rx_errors, of_tx_err
 use Rattle.can_state.specs.View.{view}
 use Rattle.can_calls.specs.Request.{SERVICE, outcome_of}
 use Rattle.can_calls.proofs.Laws.{told, set_keeps, ask_keeps}
-use Rattle.can_calls.proofs.Arms.{only}
+use Rattle.can_calls.proofs.Arms.{last_service}
 use Rattle.can_calls.proofs.perform.service.Goals as goal
 
 pub returns-in-Init : goal.returns-in-Init
@@ -63,5 +63,5 @@ returns-in-TxErrors c =
 pub returns-in_default : goal.returns-in_default
 unfolding outcome_of
 returns-in_default c =
-    rw (only c.args.request.function SERVICE (7 ∷ 8 ∷ 9 ∷ 10 ∷ 11 ∷ 12 ∷ 13 ∷ 14 ∷ 15 ∷ 16 ∷ []) c.in_default.keys8 7 refl c.requires)
+    rw (last_service c.args.request.function c.requires c.in_default.not-Init c.in_default.not-DeInit c.in_default.not-Set c.in_default.not-Get c.in_default.not-ErrorState c.in_default.not-RxErrors c.in_default.not-TxErrors)
     c.write.ensures
