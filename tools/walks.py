@@ -142,7 +142,7 @@ def aliases(body):
             break
         body = body[: m.start()] + re.sub(r"(?<![\w.'-])" + re.escape(m.group(1)) + r"(?![\w'-])", m.group(2), body[m.end() :])
     for m in list(re.finditer(r"let (\S+) = (c(?:\.[\w-]+)+) in\s*", body)):
-        if re.search(r"(?<![\w.'-])" + re.escape(m.group(1)) + r"\.(auto|given)(?![\w-])", body) or m.group(2).endswith((".requires", ".pre")):
+        if re.search(r"(?<![\w.'-])" + re.escape(m.group(1)) + r"\.(auto|given|new\.[01])(?![\w-])", body) or m.group(2).endswith((".requires", ".pre")):
             body = body.replace(m.group(0), "", 1)
             body = re.sub(r"(?<![\w.'-])" + re.escape(m.group(1)) + r"(?![\w'-])", m.group(2), body)
     return body.replace(" @ ", " at ")
@@ -191,7 +191,7 @@ def turn_paths(body, info, at):
             field, rest = nested(parts[1:], len(fields))
             if field is not None:
                 parts = ["requires", fields[field]] + rest
-        if len(parts) > 2 and parts[1] == "auto" and first_params(info, here + way, first):
+        if len(parts) > 2 and parts[1] in ("auto", "new") and parts[2] in ("0", "1") and first_params(info, here + way, first):
             params = first_params(info, here + way, first)
             i = 2
             while i < len(parts) and parts[i] == "1":

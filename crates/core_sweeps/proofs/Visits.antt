@@ -1,5 +1,5 @@
 -- One object's visit, and a sweep over the objects that goes on.
-use Prim.Native.Nat.{ℕ, suc, ◌+◌, ◌*◌, ◌≤◌, ◌<◌}
+use Prim.Native.Nat.{ℕ, ◌+◌, ◌*◌, ◌≤◌, ◌<◌}
 use mathlib.Core.Path.{◌≡◌, refl, ap, sym, ◌∙◌}
 use mathlib.Core.Bool.{Bool, true, false, cond}
 use mathlib.Core.List.{List, [], ◌∷◌, ◌++◌, map}
@@ -9,13 +9,12 @@ use native.Mathlib.Numerals.{add-one}
 use native.Mathlib.Nat.{mul-le-mul_left, mul-suc}
 use lib.ListN.{length, set, get_or, get_or-map}
 use Rattle.rules.specs.Repeat.{rising}
-use Rattle.rules.specs.Bytes.{splice}
 use Rattle.rules.specs.Notification.{Notification, words, all_words}
 use Rattle.rules.specs.Core.{Owner, Mailbox, empty_mailbox, owner_at, mailbox_at}
 use Rattle.rules.specs.Polls.{Boxes, Visit, notify, visit_one, visit_all}
-use Rattle.laws.proofs.Tests.{cond_both, decide}
+use Rattle.laws.proofs.Tests.{decide}
 use Rattle.laws.proofs.Splices.{splice_nil, splice_then, length_splice}
-use Rattle.laws.proofs.Sheets.{length_words, length_all_words, all_words_one, all_words_append}
+use Rattle.laws.proofs.Sheets.{length_all_words, all_words_one, all_words_append}
 use Rattle.laws.proofs.Bounds.{mailbox_busy, busy_count, busy_freed, Frees, confirmation_frees, indication_frees, closing_frees, load, visits_load, length-snoc}
 use Rattle.core_layout.specs.Head.{length_bytes}
 use Rattle.core_layout.specs.Sheet.{words_each}

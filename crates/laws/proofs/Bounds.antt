@@ -1,20 +1,19 @@
 -- "No call writes more than 36 records": the bound, once for any limits.
 -- Each visit takes one busy mailbox away, so notifications and busy mailboxes together grow only by a controller's own record.
 use Prim.Native.Nat.{ℕ, zero, suc, ◌+◌, ◌≤◌, ◌<◌}
-use mathlib.Core.Path.{◌≡◌, refl, ap, sym, ◌∙◌}
-use mathlib.Core.Bool.{Bool, true, false, cond, ◌&&◌, ◌||◌, or-true}
+use mathlib.Core.Path.{◌≡◌, refl, ap, ◌∙◌}
+use mathlib.Core.Bool.{Bool, true, false, cond, ◌||◌, or-true}
 use mathlib.Core.List.{List, [], ◌∷◌, ◌++◌}
-use mathlib.Core.Logic.{◌⊎◌, inl, inr, ⊎_elim}
+use mathlib.Core.Logic.{⊎_elim}
 use native.Mathlib.Omega.{arith}
-use native.Mathlib.Decide.{ℕ_discrete}
 use lib.ListN.{length, set, length-append}
 use lib.Seq.{get_or-set_other}
 use lib.Dec.{eqb}
 use Rattle.rules.specs.Repeat.{rising}
-use Rattle.rules.specs.Core.{Controller, Owner, Mailbox, Core, empty_mailbox, owner_at, mailbox_at, controller_at}
-use Rattle.rules.specs.Notification.{Notification, mode_indication, bus_off_indication}
+use Rattle.rules.specs.Core.{Owner, Mailbox, Core, empty_mailbox, owner_at, mailbox_at, controller_at}
+use Rattle.rules.specs.Notification.{Notification}
 use Rattle.rules.specs.Polls.{Boxes, Sweep, Visit, Turn, notify, visit_one, visit_all, confirmation, indication, closing, turn_one, turn_all, sweep_of}
-use Rattle.laws.proofs.Tests.{cond_both, left, right, clash}
+use Rattle.laws.proofs.Tests.{cond_both, right}
 use Rattle.laws.proofs.Repeat.{rising_keeps, last_or_below}
 use Rattle.laws.proofs.Sweeps.{set_default}
 

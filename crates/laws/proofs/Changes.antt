@@ -1,19 +1,19 @@
 -- Changes of a valid core that keep it valid: one mailbox, a sweep over the mailboxes, one controller with its mailboxes.
 use Prim.Native.Nat.{ℕ, ◌≤◌, ◌<◌}
-use mathlib.Core.Path.{◌≡◌, refl, ap, sym, ◌∙◌}
+use mathlib.Core.Path.{◌≡◌, refl, sym, ◌∙◌}
 use mathlib.Core.Bool.{Bool, true, false, not, cond, ◌&&◌, ◌||◌}
 use mathlib.Core.List.{List}
-use mathlib.Core.Logic.{◌⊎◌, inl, inr, ⊎_elim}
+use mathlib.Core.Logic.{◌⊎◌, inl, inr}
 use native.Mathlib.Omega.{arith}
 use native.Mathlib.Decide.{ℕ_discrete}
-use lib.ListN.{length, set, get_or, length-set}
+use lib.ListN.{length, set, length-set}
 use lib.Seq.{get_or-set_same, get_or-set_other}
 use lib.Dec.{eqb, ltb, leb}
-use borrow.Author.Tests.{lt-ltb, ltb-true, ltb-false, leb-true, eqb-true, eq-eqb}
+use borrow.Author.Tests.{lt-ltb, ltb-true, ltb-false, leb-true, eqb-true}
 use Rattle.rules.specs.Limits.{Limits}
 use Rattle.rules.specs.Core.{Controller, Mailbox, Core, idle_controller, empty_mailbox, controller_at, owner_at, mailbox_at, mailbox_valid, mailbox_empty, controller_valid, is_started, controller_place_valid, mailbox_place_valid, nothing_in_use, counts_valid, controller_of, with_mailboxes, with_controllers}
 use Rattle.rules.specs.Polls.{Visit, visit_all, boxes_of}
-use Rattle.laws.proofs.Tests.{both, left, right, clash, decide, cond_both}
+use Rattle.laws.proofs.Tests.{left, right, clash, decide, cond_both}
 use Rattle.laws.proofs.Validity.{Valid}
 use Rattle.laws.proofs.Sweeps.{boxes_length, boxes_above, boxes_below}
 

@@ -1,17 +1,16 @@
 -- Pools: the lowest member, the lowest free member, and what the members of a pool of a valid state share.
 use Prim.Native.Nat.{ℕ, zero, suc, ◌≤◌, ◌<◌}
-use mathlib.Core.Path.{◌≡◌, refl, ap, sym, ◌∙◌}
-use mathlib.Core.Bool.{Bool, true, false, not, cond, ◌&&◌, ◌||◌}
+use mathlib.Core.Path.{◌≡◌, refl, sym, ◌∙◌}
+use mathlib.Core.Bool.{Bool, true, false, not, cond, ◌&&◌}
 use mathlib.Core.List.{List}
 use mathlib.Core.Logic.{◌⊎◌, inl, inr, ⊎_elim}
 use native.Mathlib.Omega.{arith}
 use native.Mathlib.Nat.{eq-or-lt_of_le}
 use lib.Dec.{eqb, ltb}
 use borrow.Author.Tests.{eqb-true, eq-eqb, ltb-true, ltb-false}
-use Rattle.rules.specs.Limits.{Limits}
 use Rattle.rules.specs.Format.{Format}
 use Rattle.rules.specs.Repeat.{all_below, lowest_or}
-use Rattle.rules.specs.Core.{Owner, Core, owner_at, is_sending, in_pool, lowest_of, names_pool, free_in_pool, free_member, pool_valid}
+use Rattle.rules.specs.Core.{Owner, Core, owner_at, in_pool, lowest_of, names_pool, free_in_pool, free_member, pool_valid}
 use Rattle.rules.specs.Configuration.{settings_at, settings_agreed}
 use Rattle.laws.proofs.Tests.{both, left, right, clash, decide, not_true, same_truth}
 use Rattle.laws.proofs.Repeat.{all_facts, facts_all}

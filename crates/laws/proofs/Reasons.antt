@@ -1,11 +1,11 @@
 -- Laws of the lists of reasons.
 use Prim.Native.Nat.{ℕ, zero, suc}
-use mathlib.Core.Path.{◌≡◌, refl, ap, sym, ◌∙◌}
-use mathlib.Core.Bool.{Bool, true, false, not, cond, ◌&&◌}
+use mathlib.Core.Path.{◌≡◌, refl}
+use mathlib.Core.Bool.{Bool, true, false, not, cond}
 use mathlib.Core.List.{List, [], ◌∷◌}
 use lib.ListN.{get_or}
 use lib.Dec.{eqb}
-use borrow.Author.Tests.{eqb-true, eqb-false, eq-eqb}
+use borrow.Author.Tests.{eqb-true, eq-eqb}
 use Rattle.rules.specs.Reason.{Check, ◌if◌, first_reason, ◌then◌, reasons_named, return_code, E_OK, E_NOT_OK, CAN_BUSY, OBJECT_BUSY}
 use Rattle.rules.specs.Outcome.{Outcome, judged}
 use Rattle.laws.proofs.Tests.{left, right, clash, cond_both, not_true}

@@ -1,8 +1,8 @@
 -- Demand 2's write rule, proved: a write is accepted exactly if it fits; and which member of its pool it takes.
 use Prim.Native.Nat.{ℕ, ◌<◌}
 use mathlib.Core.Path.{◌≡◌, refl, ap, sym, ◌∙◌}
-use mathlib.Core.Bool.{Bool, true, false, not, cond}
-use mathlib.Core.List.{List, [], ◌∷◌}
+use mathlib.Core.Bool.{Bool, true, false, cond}
+use mathlib.Core.List.{List}
 use mathlib.Core.Logic.{◌↔◌, ◌⊎◌, inl, inr}
 use native.Mathlib.Omega.{arith}
 use native.Mathlib.Decide.{dec_lt}
@@ -17,11 +17,11 @@ use Rattle.rules.specs.State.{State, valid}
 use Rattle.rules.specs.Outcome.{Outcome, Answer, taken_by, full_gate}
 use Rattle.rules.specs.Services.{write_reason}
 use Rattle.rules.specs.Calls.{write, frame_reason, settings_of_object}
-use Rattle.rules.specs.Can.{Frame, can_format, identifier_good, length_fits}
+use Rattle.rules.specs.Can.{can_format, identifier_good, length_fits}
 use Rattle.rules.specs.Can.{write_checks as can_checks}
 use Rattle.laws.specs.WriteRule.{FreeMember, WriteAllowed, WriteFits, CanWriteFits, LowestFree, WriteRule, CanWriteRule, MemberRule, BusyRule}
 use Rattle.laws.proofs.Tests.{both, right, clash, decide, not_true, not_false}
-use Rattle.laws.proofs.Reasons.{then_first, then_second, then_none, check_passed, judged_cases, judged_accepts, rejected_code}
+use Rattle.laws.proofs.Reasons.{then_first, then_second, check_passed, judged_cases, judged_accepts, rejected_code}
 use Rattle.laws.proofs.Pools.{Named, named, taken_member, lowest_holds, lowest_least}
 use Rattle.laws.proofs.Validity.{core_facts, state_core}
 use Rattle.laws.proofs.Acceptance.{gate_passed, write_passed}

@@ -1,5 +1,5 @@
 -- The driver state: its core, and what is configured of each object's frames. 01, "What the bench is made of"; valid is 01's sound.
-use Rattle.std.specs.Prelude.{ℕ, Bool, ◌&&◌, List, length, replicate, eqb}
+use Rattle.std.specs.Prelude.{Bool, ◌&&◌, List, length, replicate, eqb}
 use Rattle.rules.specs.Limits.{Limits}
 use Rattle.rules.specs.Format.{Format}
 use Rattle.rules.specs.Core.{Core, core_valid, initial_core}

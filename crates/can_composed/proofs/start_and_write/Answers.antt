@@ -27,8 +27,8 @@ returns c fits =
     let first = c.initial_state in
     let written = c.write-written in
     let same =
-    same_write chip can_format (length given.sheet.now) (length c.init-called.new.1.1.0) (length c.set_controller_mode-asked.new.1.0) (length c.main_function_mode-polled.new.1.1.0) 0 1 given.object given.handle
-    (record { identifier = given.identifier; sdu = given.sdu.now }) given.bytes.now given.ram.now c.init-called.new.1.0 written.new.1.0
+    same_write chip can_format (length given.sheet.now) (length c.init-called.new.sheet) (length c.set_controller_mode-asked.new.sheet) (length c.main_function_mode-polled.new.sheet) 0 1 given.object given.handle
+    (record { identifier = given.identifier; sdu = given.sdu.now }) given.bytes.now given.ram.now c.init-called.new.ram written.new.ram
     (view first.result) (view c.init-called.result.state) (view c.set_controller_mode-asked.result.state) (view c.main_function_mode-polled.result.state) (view written.result.state)
     first.ensures (omega (arith, c.init-called.auto)) (omega (arith, c.init-called.auto, c.set_controller_mode-asked.auto)) (omega (arith, c.init-called.auto, c.set_controller_mode-asked.auto, c.main_function_mode-polled.auto))
     c.init-called.ensures.state_is c.init-called.ensures.ram_is c.set_controller_mode-asked.ensures.state_is c.main_function_mode-polled.ensures.state_is in

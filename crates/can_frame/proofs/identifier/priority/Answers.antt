@@ -4,7 +4,6 @@ use Prim.Native.Nat.{◌/◌, ◌^◌}
 use mathlib.Core.Path.{sym, ◌∙◌}
 use native.Mathlib.Omega.{arith}
 use lib.Bits.{and_mask}
-use borrow.Author.Rules.{rules}
 use Rattle.can_frame.proofs.identifier.priority.Goals as goal
 
 pub rank-requires : goal.rank-requires

@@ -1,6 +1,5 @@
 -- `can_frame::length::is_wire_length` meets its contract: the branch goes by `is_fd`, and the wire length is `on_wire`'s, as in the definition.
 -- Assumes nothing.
-use borrow.Author.Rules.{rules}
 use Rattle.can_frame.proofs.length.is_wire_length.Goals as goal
 
 pub returns-then-is_fd : goal.returns-then-is_fd

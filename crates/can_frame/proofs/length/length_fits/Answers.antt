@@ -1,6 +1,5 @@
 -- `can_frame::length::length_fits` meets its contract: the branch goes by `is_fd`, as the definition does.
 -- Assumes nothing.
-use borrow.Author.Rules.{rules}
 use Rattle.can_frame.proofs.length.length_fits.Goals as goal
 
 pub returns-then-is_fd : goal.returns-then-is_fd

@@ -1,6 +1,5 @@
 -- `can_frame::length::on_wire` meets its contract: the two bytes of the table's entry are the rule's wire length and DLC code.
 -- Assumes nothing.
-use borrow.Author.Rules.{rules}
 use Rattle.can_frame.proofs.Entries.{table_rule}
 use Rattle.can_frame.proofs.length.on_wire.Goals as goal
 

@@ -1,6 +1,5 @@
 -- `can_frame::settings::receiving_valid` meets its contract: each test is the definition's, the last one that of `within_mask`.
 -- Assumes nothing.
-use borrow.Author.Rules.{rules}
 use Rattle.can_frame.proofs.settings.receiving_valid.Goals as goal
 
 pub returns : goal.returns

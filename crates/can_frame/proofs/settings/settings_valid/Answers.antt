@@ -1,6 +1,5 @@
 -- `can_frame::settings::settings_valid` meets its contract: each branch answers what the definition says of that kind of object.
 -- Assumes nothing.
-use borrow.Author.Rules.{rules}
 use Rattle.can_frame.proofs.settings.settings_valid.Goals as goal
 
 pub returns-then-receiving : goal.returns-then-receiving

@@ -1,6 +1,5 @@
 -- `core_answers::gate::state_gate` meets its contract: the tests on the way to each return pick the first reason that applies.
 -- Assumes nothing.
-use borrow.Author.Tests.{lt-ltb, le-ltb, eq-eqb, ne_eqb}
 use Rattle.rules.specs.Reason.{first_reason}
 use Rattle.core_answers.proofs.gate.state_gate.Goals as goal
 

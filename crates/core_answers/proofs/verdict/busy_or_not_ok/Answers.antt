@@ -1,6 +1,5 @@
 -- `core_answers::verdict::busy_or_not_ok` meets its contract: no rejection has reason 0, and only a busy object's is CAN_BUSY.
 -- Assumes nothing.
-use borrow.Author.Rules.{rules}
 use borrow.Author.Tests.{eq-eqb, ne_eqb}
 use mathlib.Core.Path.{sym, ◌∙◌}
 use Rattle.rules.specs.Reason.{return_code}

@@ -1,6 +1,5 @@
 -- `core_answers::verdict::return_code` meets its contract: an acceptance has code 0, and a rejection the code of its reason.
 -- Assumes nothing.
-use borrow.Author.Rules.{rules}
 use Rattle.rules.specs.Reason.{return_code}
 use Rattle.core_answers.proofs.verdict.return_code.Goals as goal
 

@@ -1,6 +1,5 @@
 -- `core_answers::verdict::then` meets its contract: an acceptance has reason 0, a rejection has another.
 -- Assumes nothing.
-use borrow.Author.Rules.{rules}
 use Rattle.core_answers.proofs.Laws.{reason_named}
 use Rattle.core_answers.proofs.verdict.then.Goals as goal
 

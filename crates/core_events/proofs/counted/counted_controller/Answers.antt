@@ -1,6 +1,5 @@
 -- The test of the count decides.
 use mathlib.Core.Path.{sym, ◌∙◌}
-use borrow.Author.Rules.{rules}
 use Rattle.core_events.proofs.counted.counted_controller.Goals as goal
 
 pub returns-then-above_bus_off : goal.returns-then-above_bus_off

@@ -4,7 +4,6 @@ use mathlib.Core.Path.{ap₂, ◌∙◌}
 use mathlib.Core.Bool.{◌&&◌}
 use lib.Dec.{eqb}
 use Rattle.rules.specs.Core.{error_state}
-use borrow.Author.Rules.{rules}
 use Rattle.core_events.proofs.counted.enters_passive.Goals as goal
 
 pub returns : goal.returns

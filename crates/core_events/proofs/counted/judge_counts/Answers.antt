@@ -1,7 +1,6 @@
 -- The test decides.
 use mathlib.Core.Path.{sym, ◌∙◌}
 use Rattle.rules.specs.Reason.{first_reason}
-use borrow.Author.Rules.{rules}
 use Rattle.core_events.proofs.counted.judge_counts.Goals as goal
 
 pub returns-then-within_limit : goal.returns-then-within_limit

@@ -5,7 +5,6 @@ use mathlib.Core.List.{[], ◌∷◌}
 use Rattle.rules.specs.Notification.{error_passive_indication, sheet_after}
 use Rattle.core_layout.proofs.Placed.{put_first}
 use Rattle.core_answers.proofs.Laws.{noted_none}
-use borrow.Author.Rules.{rules}
 use Rattle.core_events.proofs.counted.report_passive.Goals as goal
 
 pub returns-then-enters_passive : goal.returns-then-enters_passive

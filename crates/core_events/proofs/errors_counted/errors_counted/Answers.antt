@@ -24,7 +24,6 @@ use Rattle.core_answers.proofs.Laws.{reason_named, noted_none, told_performed, r
 use Rattle.core_events.specs.Checks.{on_bus_checks}
 use Rattle.core_events.specs.Counted.{CountRoom}
 use Rattle.core_events.proofs.Laws.{on_bus_read}
-use borrow.Author.Rules.{rules}
 use Rattle.core_events.proofs.errors_counted.errors_counted.Goals as goal
 
 pub report_passive-notifications-requires : goal.report_passive-notifications-requires

@@ -1,6 +1,5 @@
 -- By the case of the pick.
 use mathlib.Core.Path.{refl}
-use borrow.Author.Rules.{rules}
 use Rattle.core_events.proofs.next.told.Goals as goal
 
 pub returns-in-Object : goal.returns-in-Object

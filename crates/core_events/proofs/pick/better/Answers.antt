@@ -1,5 +1,4 @@
 -- The test picks the object or the best so far.
-use borrow.Author.Rules.{rules}
 use Rattle.core_events.proofs.pick.better.Goals as goal
 
 pub returns-then-fits-outranks : goal.returns-then-fits-outranks

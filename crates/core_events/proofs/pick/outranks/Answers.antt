@@ -1,5 +1,4 @@
 -- By the case of the best so far.
-use borrow.Author.Rules.{rules}
 use Rattle.core_events.proofs.pick.outranks.Goals as goal
 
 pub returns-in-Object : goal.returns-in-Object

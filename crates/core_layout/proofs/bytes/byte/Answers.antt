@@ -1,7 +1,6 @@
 -- The part of one byte is the one that is read.
 use mathlib.Core.Path.{sym, ◌∙◌}
 use Rattle.laws.proofs.Splices.{number_one}
-use borrow.Author.Rules.{rules}
 use Rattle.core_layout.proofs.bytes.byte.Goals as goal
 
 pub returns : goal.returns

@@ -4,7 +4,6 @@ use mathlib.Core.Path.{◌≡◌, ◌∙◌}
 use mathlib.Core.List.{List, [], append-nil}
 use native.Mathlib.Omega.{arith}
 use lib.ListN.{length, drop, replicate, length-replicate, drop_of_length-le}
-use borrow.Author.Rules.{rules}
 use Rattle.rules.specs.Bytes.{splice}
 use Rattle.laws.proofs.Splices.{splice_is}
 use Rattle.core_layout.proofs.bytes.clear.Goals as goal

@@ -1,9 +1,8 @@
-use Prim.Native.Nat.{ℕ, ◌+◌, ◌≤◌, ◌-◌}
+use Prim.Native.Nat.{ℕ, ◌+◌}
 use mathlib.Core.List.{List}
 use mathlib.Core.Path.{◌≡◌, refl, ap, sym, ◌∙◌}
 use native.Mathlib.Omega.{arith}
-use lib.ListN.{length, replicate, set, length-set}
-use Rattle.rules.specs.Bytes.{splice}
+use lib.ListN.{set, length-set}
 use Rattle.laws.proofs.Splices.{splice_nil, fill_more}
 use Rattle.core_layout.proofs.bytes.fill.Goals as goal
 

@@ -1,11 +1,8 @@
 -- The loop's invariant: the run written so far has i elements, and the RAM its length. A turn's store makes the run longer by one.
-use Prim.Native.Nat.{ℕ, ◌+◌, ◌≤◌, ◌-◌}
-use mathlib.Core.List.{List}
-use mathlib.Core.Path.{◌≡◌, refl, ap, sym, ◌∙◌}
-use native.Mathlib.Omega.{arith}
-use lib.ListN.{length, replicate, set, length-set}
+use Prim.Native.Nat.{◌≤◌, ◌-◌}
+use mathlib.Core.Path.{◌≡◌}
+use lib.ListN.{length, replicate}
 use Rattle.rules.specs.Bytes.{splice}
-use Rattle.laws.proofs.Splices.{splice_nil, fill_more}
 use Rattle.core_layout.proofs.bytes.fill.Given as goal
 
 abbrev pub invariant-loop-i : goal.invariant-loop-i

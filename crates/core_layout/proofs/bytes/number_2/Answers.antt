@@ -4,7 +4,6 @@ use native.Mathlib.Omega.{arith}
 use Rattle.rules.specs.Repeat.{list_below}
 use Rattle.rules.specs.Bytes.{number}
 use Rattle.laws.proofs.Splices.{read_part}
-use borrow.Author.Rules.{rules}
 use Rattle.core_layout.proofs.bytes.number_2.Goals as goal
 
 pub returns : goal.returns

@@ -1,10 +1,9 @@
-use Prim.Native.Nat.{ℕ, ◌+◌, ◌≤◌, ◌-◌}
+use Prim.Native.Nat.{ℕ, ◌+◌}
 use mathlib.Core.List.{List}
 use mathlib.Core.Path.{◌≡◌, refl, ap, sym, ◌∙◌}
 use native.Mathlib.Omega.{arith}
-use lib.ListN.{length, take, get_or, set, length-set}
+use lib.ListN.{take, get_or, set, length-set}
 use lib.Seq.{take_all}
-use Rattle.rules.specs.Bytes.{splice}
 use Rattle.laws.proofs.Splices.{splice_nil, copy_more}
 use Rattle.core_layout.proofs.bytes.put_bytes.Goals as goal
 

@@ -3,7 +3,6 @@ use Prim.Native.Nat.{◌*◌}
 use mathlib.Core.Path.{◌∙◌}
 use native.Mathlib.Omega.{arith}
 use Rattle.laws.proofs.Splices.{part_part}
-use borrow.Author.Rules.{rules}
 use Rattle.core_layout.proofs.head.handle_at.Goals as goal
 
 pub returns : goal.returns

@@ -4,7 +4,6 @@ use mathlib.Core.Path.{◌∙◌}
 use native.Mathlib.Nat.{add-zero}
 use native.Mathlib.Omega.{arith}
 use Rattle.laws.proofs.Splices.{part_part}
-use borrow.Author.Rules.{rules}
 use Rattle.core_layout.proofs.head.identifier_at.Goals as goal
 
 pub returns : goal.returns

@@ -1,5 +1,4 @@
 -- The words that are written are the notification's.
-use borrow.Author.Rules.{rules}
 use Rattle.core_layout.proofs.notification.put.Goals as goal
 
 pub returns : goal.returns

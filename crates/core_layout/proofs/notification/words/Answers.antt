@@ -1,6 +1,5 @@
 -- In each arm the notification is the one whose fields the arm binds.
 use Rattle.rules.specs.Notification.{words}
-use borrow.Author.Rules.{rules}
 use Rattle.core_layout.proofs.notification.words.Goals as goal
 
 pub returns-in-TxConfirmation : goal.returns-in-TxConfirmation

@@ -2,7 +2,6 @@
 use mathlib.Core.Path.{◌∙◌}
 use native.Mathlib.Omega.{arith}
 use Rattle.core_places.proofs.Laws.{controller_past}
-use borrow.Author.Rules.{rules}
 use Rattle.core_places.proofs.at.controller_at.Goals as goal
 
 pub returns-then-c-modes : goal.returns-then-c-modes

@@ -2,7 +2,6 @@
 use mathlib.Core.Path.{◌∙◌}
 use native.Mathlib.Omega.{arith}
 use Rattle.core_places.proofs.Laws.{errors_past}
-use borrow.Author.Rules.{rules}
 use Rattle.core_places.proofs.at.errors_at.Goals as goal
 
 pub returns-then-c-recoverings : goal.returns-then-c-recoverings

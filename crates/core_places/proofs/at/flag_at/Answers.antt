@@ -2,7 +2,6 @@
 use mathlib.Core.Path.{sym}
 use mathlib.Core.Bool.{false}
 use lib.ListN.{get_or-eq_default}
-use borrow.Author.Rules.{rules}
 use Rattle.core_places.proofs.at.flag_at.Goals as goal
 
 pub returns-else-i-flags : goal.returns-else-i-flags

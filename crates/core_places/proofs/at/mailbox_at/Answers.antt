@@ -2,7 +2,6 @@
 use mathlib.Core.Path.{◌∙◌}
 use native.Mathlib.Omega.{arith}
 use Rattle.core_places.proofs.Laws.{mailbox_past}
-use borrow.Author.Rules.{rules}
 use Rattle.core_places.proofs.at.mailbox_at.Goals as goal
 
 pub returns-then-h-pendings : goal.returns-then-h-pendings

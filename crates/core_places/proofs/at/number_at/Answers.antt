@@ -1,7 +1,6 @@
 -- `core_places::at::number_at` meets its contract: past the end a read gives its default.
 use mathlib.Core.Path.{sym}
 use lib.ListN.{get_or-eq_default}
-use borrow.Author.Rules.{rules}
 use Rattle.core_places.proofs.at.number_at.Goals as goal
 
 pub returns-else-i-numbers : goal.returns-else-i-numbers

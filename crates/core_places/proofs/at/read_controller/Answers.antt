@@ -1,7 +1,6 @@
 -- What stands at the place in each of the arrays.
 use mathlib.Core.Path.{sym}
 use Rattle.core_places.proofs.Laws.{controller_seen}
-use borrow.Author.Rules.{rules}
 use Rattle.core_places.proofs.at.read_controller.Goals as goal
 
 pub returns : goal.returns

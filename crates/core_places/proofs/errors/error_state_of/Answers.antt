@@ -1,5 +1,4 @@
 -- `core_places::errors::error_state_of` meets its contract: the tests on the way to each return are those of the definition.
-use borrow.Author.Rules.{rules}
 use Rattle.core_places.proofs.errors.error_state_of.Goals as goal
 
 pub returns-then-off-above_bus_off : goal.returns-then-off-above_bus_off

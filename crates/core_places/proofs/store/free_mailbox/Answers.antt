@@ -1,6 +1,5 @@
 -- A store in each array is a store in the places.
 use Rattle.core_places.proofs.Laws.{zip_3_set}
-use borrow.Author.Rules.{rules}
 use Rattle.core_places.proofs.store.free_mailbox.Goals as goal
 
 pub returns : goal.returns

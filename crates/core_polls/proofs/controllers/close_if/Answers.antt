@@ -1,7 +1,6 @@
 -- A controller that stays on the bus has nothing closed.
 use Rattle.core_places.specs.Arrays.{mailboxes_in}
 use Rattle.core_sweeps.proofs.Visits.{swept_none}
-use borrow.Author.Rules.{rules}
 use Rattle.core_polls.proofs.controllers.close_if.Goals as goal
 
 pub returns-then-leaves : goal.returns-then-leaves

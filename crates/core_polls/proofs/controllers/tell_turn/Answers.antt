@@ -3,7 +3,6 @@ use native.Mathlib.Omega.{arith}
 use Rattle.core_places.specs.Arrays.{mailboxes_in}
 use Rattle.core_sweeps.proofs.Visits.{swept_told, owned_by, owned_is}
 use Rattle.core_polls.proofs.Turns.{closed_room}
-use borrow.Author.Rules.{rules}
 use Rattle.core_polls.proofs.controllers.tell_turn.Goals as goal
 
 pub tell-requires : goal.tell-requires

@@ -1,8 +1,7 @@
-use Prim.Native.Nat.{◌-◌, ◌<◌}
+use Prim.Native.Nat.{◌<◌}
 use mathlib.Core.Path.{sym, ◌∙◌}
 use native.Mathlib.Omega.{arith}
-use Rattle.core_polls.specs.Turns.{turn_of}
-use Rattle.core_polls.proofs.Turns.{Turning, turns_begin, turn_room, turns_go_on, turns_end}
+use Rattle.core_polls.proofs.Turns.{turns_begin, turn_room, turns_go_on, turns_end}
 use Rattle.core_polls.proofs.controllers.turn_all.Goals as goal
 
 pub loop-c-init : goal.loop-c-init

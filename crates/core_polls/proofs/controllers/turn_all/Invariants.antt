@@ -1,10 +1,8 @@
 -- The loop's invariant: the controllers below c have had their turn as the rules say. Each adds one notification at most beyond the
 -- mailboxes that were busy, so that the room for all controllers and objects in use is enough.
-use Prim.Native.Nat.{◌-◌, ◌<◌}
-use mathlib.Core.Path.{sym, ◌∙◌}
-use native.Mathlib.Omega.{arith}
+use Prim.Native.Nat.{◌-◌}
 use Rattle.core_polls.specs.Turns.{turn_of}
-use Rattle.core_polls.proofs.Turns.{Turning, turns_begin, turn_room, turns_go_on, turns_end}
+use Rattle.core_polls.proofs.Turns.{Turning}
 use Rattle.core_polls.proofs.controllers.turn_all.Given as goal
 
 abbrev pub invariant-loop-c : goal.invariant-loop-c

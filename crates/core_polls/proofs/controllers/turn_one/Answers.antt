@@ -3,7 +3,6 @@ use mathlib.Core.Path.{sym, ◌∙◌}
 use Rattle.core_places.specs.Arrays.{controllers_in, mailboxes_in}
 use Rattle.core_polls.specs.Turns.{turn_of}
 use Rattle.core_polls.proofs.Turns.{turned_due, turned_not}
-use borrow.Author.Rules.{rules}
 use Rattle.core_polls.proofs.controllers.turn_one.Goals as goal
 
 pub tell_turn-requires : goal.tell_turn-requires

@@ -1,9 +1,7 @@
-use Prim.Native.Nat.{◌-◌, ◌<◌}
+use Prim.Native.Nat.{◌<◌}
 use mathlib.Core.Path.{sym, ◌∙◌}
 use native.Mathlib.Omega.{arith}
-use Rattle.core_places.specs.Arrays.{controllers_in}
-use Rattle.core_polls.specs.Turns.{turn_of}
-use Rattle.core_polls.proofs.Passes.{Passing, passes_begin, passes_go_on, passes_end}
+use Rattle.core_polls.proofs.Passes.{passes_begin, passes_go_on, passes_end}
 use Rattle.core_polls.proofs.errors.errors_all.Goals as goal
 
 pub loop-c-init : goal.loop-c-init

@@ -1,10 +1,8 @@
 -- The loop's invariant: the errors of the controllers below c have had their turn as the rules say.
-use Prim.Native.Nat.{◌-◌, ◌<◌}
-use mathlib.Core.Path.{sym, ◌∙◌}
-use native.Mathlib.Omega.{arith}
+use Prim.Native.Nat.{◌-◌}
 use Rattle.core_places.specs.Arrays.{controllers_in}
 use Rattle.core_polls.specs.Turns.{turn_of}
-use Rattle.core_polls.proofs.Passes.{Passing, passes_begin, passes_go_on, passes_end}
+use Rattle.core_polls.proofs.Passes.{Passing}
 use Rattle.core_polls.proofs.errors.errors_all.Given as goal
 
 abbrev pub invariant-loop-c : goal.invariant-loop-c

@@ -4,7 +4,6 @@ use lib.ListN.{set}
 use Rattle.rules.specs.Errors.{Errors}
 use Rattle.core_places.specs.Arrays.{errors_in}
 use Rattle.core_polls.specs.Turns.{turn_of}
-use borrow.Author.Rules.{rules}
 use Rattle.core_polls.proofs.errors.errors_one.Goals as goal
 
 pub returns-then-turn_due : goal.returns-then-turn_due

@@ -6,7 +6,6 @@ use Rattle.core_answers.specs.Answer.{verdict_reason}
 use Rattle.core_answers.proofs.Laws.{reason_named}
 use Rattle.core_polls.specs.Turns.{turn_of}
 use Rattle.core_polls.proofs.Polled.{controllers_passed, polled_refused}
-use borrow.Author.Rules.{rules}
 use Rattle.core_polls.proofs.poll.poll_controllers.Goals as goal
 
 pub errors_all-requires : goal.errors_all-requires

@@ -9,7 +9,6 @@ use Rattle.core_answers.specs.Answer.{verdict_reason}
 use Rattle.core_answers.proofs.Laws.{reason_named}
 use Rattle.core_places.specs.Arrays.{mailboxes_in}
 use Rattle.core_polls.proofs.Polled.{objects_passed, polled_refused}
-use borrow.Author.Rules.{rules}
 use Rattle.core_polls.proofs.poll.poll_objects.Goals as goal
 
 pub visit_all-told-requires : goal.visit_all-told-requires

@@ -1,6 +1,5 @@
 -- The test of the request decides.
 use borrow.Author.Tests.{eq-eqb, ne_eqb}
-use borrow.Author.Rules.{rules}
 use Rattle.core_polls.proofs.turn.entering_errors.Goals as goal
 
 pub returns-then-k-eq-STARTED : goal.returns-then-k-eq-STARTED

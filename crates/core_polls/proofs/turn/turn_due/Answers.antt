@@ -1,5 +1,4 @@
 -- Each case is the case of the definition.
-use borrow.Author.Rules.{rules}
 use Rattle.core_polls.proofs.turn.turn_due.Goals as goal
 
 pub returns-in-ModeChange : goal.returns-in-ModeChange

@@ -1,5 +1,4 @@
 -- Each case is the case of the definition.
-use borrow.Author.Rules.{rules}
 use Rattle.core_services.proofs.ask_controller.answer_to.Goals as goal
 
 pub returns-in-ErrorState : goal.returns-in-ErrorState

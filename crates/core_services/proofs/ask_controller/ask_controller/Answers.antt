@@ -3,9 +3,8 @@
 use mathlib.Core.Path.{◌≡◌, refl, sym, ap, ap₂, ◌∙◌}
 use mathlib.Core.List.{List}
 use lib.Dec.{ltb}
-use borrow.Author.Rules.{rules}
 use Rattle.rules.specs.Reason.{Check, first_reason, ◌then◌}
-use Rattle.rules.specs.Core.{Core, controller_at, errors_at}
+use Rattle.rules.specs.Core.{Core}
 use Rattle.rules.specs.Outcome.{told, service_report}
 use Rattle.rules.specs.Services.{question_service, answer_to, ask_controller, ask_controller_checks}
 use Rattle.core_places.specs.Arrays.{controllers_in}

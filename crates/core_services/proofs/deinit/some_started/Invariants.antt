@@ -1,15 +1,12 @@
 -- The loop's invariant: `none` says that no controller passed is STARTED. Past the last place there is no controller that could be.
 use Prim.Native.Nat.{ℕ, ◌≤◌, ◌-◌}
-use native.Mathlib.Omega.{arith}
-use mathlib.Core.Path.{◌≡◌, refl, sym, ap, ◌∙◌}
+use mathlib.Core.Path.{◌≡◌}
 use mathlib.Core.Bool.{Bool, not}
 use mathlib.Core.List.{List}
-use lib.ListN.{length, get_or, get_or-eq_default}
+use lib.ListN.{get_or}
 use lib.Dec.{eqb}
-use borrow.Author.Rules.{rules}
 use Rattle.rules.specs.Repeat.{all_below}
 use Rattle.rules.specs.Mode.{UNINIT, STARTED}
-use Rattle.laws.proofs.Repeat.{all_below_more, all_below_from}
 use Rattle.core_services.proofs.deinit.some_started.Given as goal
 
 abbrev pub not_started : List ℕ → ℕ → Bool

@@ -1,8 +1,6 @@
 -- Until the loop is done, the lowest free member is the lowest of those not yet passed, or else the one found.
-use Prim.Native.Nat.{suc, ◌≤◌, ◌-◌}
-use native.Mathlib.Omega.{arith}
-use mathlib.Core.Path.{◌≡◌, refl}
-use mathlib.Core.Bool.{true, false, cond}
+use Prim.Native.Nat.{◌≤◌}
+use mathlib.Core.Path.{◌≡◌}
 use Rattle.rules.specs.Repeat.{lowest_or}
 use Rattle.core_services.specs.Pool.{free_pooled}
 use Rattle.core_services.proofs.pool.free_member.Given as goal

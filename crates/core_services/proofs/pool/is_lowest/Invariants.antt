@@ -1,15 +1,10 @@
 -- `none` says that no object passed is a member.
-use Prim.Native.Nat.{ℕ, ◌≤◌, ◌-◌}
-use native.Mathlib.Omega.{arith}
-use mathlib.Core.Path.{◌≡◌, refl, ap, ◌∙◌}
+use Prim.Native.Nat.{◌≤◌, ◌-◌}
+use mathlib.Core.Path.{◌≡◌}
 use mathlib.Core.Bool.{not}
 use lib.ListN.{get_or}
-use borrow.Author.Rules.{rules}
 use Rattle.rules.specs.Repeat.{all_below}
-use Rattle.laws.proofs.Repeat.{all_below_more}
-use Rattle.laws.proofs.Pools.{lowest_itself}
 use Rattle.core_places.specs.Pools.{pooled}
-use Rattle.core_services.proofs.Laws.{no_member}
 use Rattle.core_services.proofs.pool.is_lowest.Given as goal
 
 abbrev pub invariant-loop-i : goal.invariant-loop-i

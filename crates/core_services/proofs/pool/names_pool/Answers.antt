@@ -1,8 +1,5 @@
 -- An object in use is judged, and no other names a pool.
-use mathlib.Core.Path.{◌≡◌}
-use mathlib.Core.Bool.{false}
 use native.Mathlib.Omega.{arith}
-use borrow.Author.Rules.{rules}
 use borrow.Author.Tests.{lt-ltb, le-ltb}
 use Rattle.core_services.proofs.pool.names_pool.Goals as goal
 

@@ -1,6 +1,5 @@
 -- The test is whether the reason applies.
 use mathlib.Core.Path.{sym, ◌∙◌}
-use borrow.Author.Rules.{rules}
 use Rattle.rules.specs.Reason.{first_reason}
 use Rattle.core_services.proofs.set_controller_mode.judge_move.Goals as goal
 

@@ -3,7 +3,6 @@ use mathlib.Core.Path.{◌≡◌, refl, ◌∙◌}
 use mathlib.Core.Bool.{Bool, true, false}
 use mathlib.Core.List.{List, ◌++◌}
 use lib.Dec.{ltb}
-use borrow.Author.Rules.{rules}
 use Rattle.rules.specs.Reason.{Check, first_reason, ◌then◌}
 use Rattle.core_services.specs.Checks.{in_use_checks}
 use Rattle.core_services.proofs.set_controller_mode.judge_set_mode.Goals as goal

@@ -1,7 +1,6 @@
 -- A permitted mode is at most SLEEP, which fits.
 use native.Mathlib.Omega.{arith}
 use lib.Dec.{leb}
-use borrow.Author.Rules.{rules}
 use borrow.Author.Tests.{leb-true}
 use Rattle.rules.specs.Mode.{STARTED, SLEEP}
 use Rattle.laws.proofs.Tests.{right}

@@ -1,6 +1,5 @@
 -- The tests on the way to each return pick the first reason that applies.
 use mathlib.Core.Path.{sym, ◌∙◌}
-use borrow.Author.Rules.{rules}
 use borrow.Author.Tests.{eq-eqb, ne_eqb}
 use Rattle.rules.specs.Reason.{first_reason}
 use Rattle.core_services.proofs.write.judge_free.Goals as goal

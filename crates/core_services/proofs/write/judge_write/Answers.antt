@@ -1,6 +1,5 @@
 -- Three verdicts in a row, each by its own function.
 use mathlib.Core.Path.{◌∙◌}
-use borrow.Author.Rules.{rules}
 use Rattle.core_services.proofs.write.judge_write.Goals as goal
 
 pub returns : goal.returns

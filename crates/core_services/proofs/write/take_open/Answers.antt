@@ -5,7 +5,6 @@ use mathlib.Core.Path.{◌≡◌, refl, sym, ap, subst, ◌∙◌}
 use mathlib.Core.Bool.{Bool, true}
 use mathlib.Core.List.{List}
 use native.Mathlib.Omega.{arith}
-use borrow.Author.Rules.{rules}
 use Rattle.rules.specs.Repeat.{lowest_or}
 use Rattle.rules.specs.Reason.{Check, first_reason, ◌then◌, reasons_named}
 use Rattle.rules.specs.Core.{Controller, Mailbox, Core, mailbox_at, free_member}

@@ -1,7 +1,5 @@
 -- A gate that refuses is the reason, and everything stays as it was; behind one that lets pass it is the service's own verdict.
-use mathlib.Core.Path.{◌≡◌, refl, sym, ap, ◌∙◌}
-use borrow.Author.Rules.{rules}
-use Rattle.rules.specs.Reason.{◌then◌}
+use mathlib.Core.Path.{◌≡◌, sym, ap}
 use Rattle.core_answers.specs.Answer.{verdict_reason}
 use Rattle.core_answers.proofs.Laws.{reason_named}
 use Rattle.core_services.proofs.write.take_write.Goals as goal

@@ -1,5 +1,4 @@
 -- The mailbox is freed, and the notification is told.
-use borrow.Author.Rules.{rules}
 use Rattle.core_sweeps.proofs.objects.free_object.Goals as goal
 
 pub returns : goal.returns

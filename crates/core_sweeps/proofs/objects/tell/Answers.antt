@@ -1,6 +1,5 @@
 -- There is room for the notification, so that it is written.
 use mathlib.Core.Path.{refl}
-use borrow.Author.Rules.{rules}
 use Rattle.core_sweeps.proofs.objects.tell.Goals as goal
 
 pub returns : goal.returns

@@ -1,7 +1,7 @@
-use Prim.Native.Nat.{◌-◌, ◌<◌}
+use Prim.Native.Nat.{◌<◌}
 use mathlib.Core.Path.{sym, ◌∙◌}
 use native.Mathlib.Omega.{arith}
-use Rattle.core_sweeps.proofs.Visits.{Sweeping, object_within, sweep_begins, busy_room, sweep_goes_on, sweep_ends}
+use Rattle.core_sweeps.proofs.Visits.{object_within, sweep_begins, busy_room, sweep_goes_on, sweep_ends}
 use Rattle.core_sweeps.proofs.objects.visit_all.Goals as goal
 
 pub loop-h-init : goal.loop-h-init

@@ -1,9 +1,7 @@
 -- The loop's invariant: the objects below h are visited as the rules say. Each visit takes one busy mailbox away, so that the room that
 -- was there for all of them is enough.
-use Prim.Native.Nat.{◌-◌, ◌<◌}
-use mathlib.Core.Path.{sym, ◌∙◌}
-use native.Mathlib.Omega.{arith}
-use Rattle.core_sweeps.proofs.Visits.{Sweeping, object_within, sweep_begins, busy_room, sweep_goes_on, sweep_ends}
+use Prim.Native.Nat.{◌-◌}
+use Rattle.core_sweeps.proofs.Visits.{Sweeping}
 use Rattle.core_sweeps.proofs.objects.visit_all.Given as goal
 
 abbrev pub invariant-loop-h : goal.invariant-loop-h

@@ -6,7 +6,6 @@ use Rattle.rules.specs.Core.{Owner}
 use Rattle.laws.proofs.Bounds.{mailbox_busy}
 use Rattle.core_sweeps.specs.Visits.{visit_of}
 use Rattle.core_sweeps.proofs.Visits.{visit_frees, visited_freed, visited_not}
-use borrow.Author.Rules.{rules}
 use Rattle.core_sweeps.proofs.objects.visit_one.Goals as goal
 
 pub free_object-requires : goal.free_object-requires

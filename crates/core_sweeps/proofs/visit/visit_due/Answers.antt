@@ -1,6 +1,5 @@
 -- Each case is the case of the definition.
 use mathlib.Core.Bool.{and_comm}
-use borrow.Author.Rules.{rules}
 use Rattle.core_sweeps.proofs.visit.visit_due.Goals as goal
 
 pub returns-in-Sent : goal.returns-in-Sent

@@ -1,6 +1,4 @@
 -- Each case is the case of the definition.
-use native.Mathlib.Omega.{arith}
-use borrow.Author.Rules.{rules}
 use Rattle.core_sweeps.proofs.visit.visit_note.Goals as goal
 
 pub returns-in-Sent : goal.returns-in-Sent

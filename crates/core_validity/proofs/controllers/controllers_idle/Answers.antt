@@ -1,4 +1,4 @@
-use Prim.Native.Nat.{ℕ, ◌≤◌, ◌-◌}
+use Prim.Native.Nat.{ℕ}
 use mathlib.Core.Path.{◌≡◌, refl, sym, ap, ◌∙◌}
 use lib.ListN.{length}
 use Rattle.rules.specs.Core.{controller_at, controller_idle}
@@ -6,7 +6,6 @@ use Rattle.core_places.specs.Arrays.{controllers_in}
 use Rattle.core_places.proofs.Laws.{zip_3_length, controller_seen}
 use Rattle.core_validity.specs.Tests.{all_from}
 use Rattle.core_validity.proofs.Laws.{from_none, from_more}
-use borrow.Author.Rules.{rules}
 use native.Mathlib.Omega.{arith}
 use Rattle.core_validity.proofs.controllers.controllers_idle.Goals as goal
 

@@ -1,14 +1,10 @@
 -- `ok` is the test of all places passed, which begin at the count.
-use Prim.Native.Nat.{ℕ, ◌≤◌, ◌-◌}
-use mathlib.Core.Path.{◌≡◌, refl, sym, ap, ◌∙◌}
+use Prim.Native.Nat.{◌≤◌, ◌-◌}
+use mathlib.Core.Path.{◌≡◌}
 use lib.ListN.{length}
 use Rattle.rules.specs.Core.{controller_at, controller_idle}
 use Rattle.core_places.specs.Arrays.{controllers_in}
-use Rattle.core_places.proofs.Laws.{zip_3_length, controller_seen}
 use Rattle.core_validity.specs.Tests.{all_from}
-use Rattle.core_validity.proofs.Laws.{from_none, from_more}
-use borrow.Author.Rules.{rules}
-use native.Mathlib.Omega.{arith}
 use Rattle.core_validity.proofs.controllers.controllers_idle.Given as goal
 
 abbrev pub invariant-loop-c : goal.invariant-loop-c

@@ -1,4 +1,4 @@
-use Prim.Native.Nat.{ℕ, ◌≤◌, ◌-◌}
+use Prim.Native.Nat.{ℕ}
 use mathlib.Core.Path.{◌≡◌, refl, ap, ◌∙◌}
 use Rattle.rules.specs.Repeat.{all_below}
 use Rattle.rules.specs.Core.{controller_at, controller_valid}
@@ -6,7 +6,6 @@ use Rattle.core_places.specs.Arrays.{controllers_in}
 use Rattle.core_places.proofs.Laws.{controller_seen}
 use Rattle.core_validity.specs.Tests.{controllers_valid}
 use Rattle.core_validity.proofs.Laws.{all_below_more}
-use borrow.Author.Rules.{rules}
 use native.Mathlib.Omega.{arith}
 use Rattle.core_validity.proofs.controllers.controllers_valid.Goals as goal
 

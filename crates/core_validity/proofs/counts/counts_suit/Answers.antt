@@ -1,5 +1,4 @@
 -- Whether the core is initialised chooses the rule.
-use borrow.Author.Rules.{rules}
 use Rattle.core_validity.proofs.counts.counts_suit.Goals as goal
 
 pub returns-then-initialised : goal.returns-then-initialised

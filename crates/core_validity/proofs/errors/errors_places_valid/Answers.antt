@@ -4,7 +4,6 @@ use Rattle.core_places.specs.Arrays.{controllers_in, errors_in}
 use Rattle.core_places.proofs.Laws.{zip_3_length}
 use Rattle.core_validity.proofs.Parts.{all_errors_parts}
 use lib.ListN.{length}
-use borrow.Author.Rules.{rules}
 use Rattle.core_validity.proofs.errors.errors_places_valid.Goals as goal
 
 pub returns : goal.returns

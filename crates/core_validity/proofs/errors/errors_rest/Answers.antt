@@ -1,4 +1,4 @@
-use Prim.Native.Nat.{ℕ, ◌≤◌, ◌-◌}
+use Prim.Native.Nat.{ℕ}
 use mathlib.Core.Path.{◌≡◌, refl, sym, ap, ◌∙◌}
 use lib.ListN.{length}
 use Rattle.rules.specs.Errors.{errors_none}
@@ -7,7 +7,6 @@ use Rattle.core_places.specs.Arrays.{errors_in}
 use Rattle.core_places.proofs.Laws.{zip_3_length}
 use Rattle.core_validity.specs.Tests.{all_from}
 use Rattle.core_validity.proofs.Laws.{from_none, from_more}
-use borrow.Author.Rules.{rules}
 use native.Mathlib.Omega.{arith}
 use Rattle.core_validity.proofs.errors.errors_rest.Goals as goal
 

@@ -1,15 +1,11 @@
 -- `ok` is the test of all places passed, which begin at the count.
-use Prim.Native.Nat.{ℕ, ◌≤◌, ◌-◌}
-use mathlib.Core.Path.{◌≡◌, refl, sym, ap, ◌∙◌}
+use Prim.Native.Nat.{◌≤◌, ◌-◌}
+use mathlib.Core.Path.{◌≡◌}
 use lib.ListN.{length}
 use Rattle.rules.specs.Errors.{errors_none}
 use Rattle.rules.specs.Core.{errors_at}
 use Rattle.core_places.specs.Arrays.{errors_in}
-use Rattle.core_places.proofs.Laws.{zip_3_length}
 use Rattle.core_validity.specs.Tests.{all_from}
-use Rattle.core_validity.proofs.Laws.{from_none, from_more}
-use borrow.Author.Rules.{rules}
-use native.Mathlib.Omega.{arith}
 use Rattle.core_validity.proofs.errors.errors_rest.Given as goal
 
 abbrev pub invariant-loop-c : goal.invariant-loop-c

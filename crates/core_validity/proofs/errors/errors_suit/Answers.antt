@@ -1,11 +1,10 @@
-use Prim.Native.Nat.{ℕ, ◌≤◌, ◌-◌}
+use Prim.Native.Nat.{ℕ}
 use mathlib.Core.Path.{◌≡◌, refl, ap, ◌∙◌}
 use Rattle.rules.specs.Repeat.{all_below}
 use Rattle.rules.specs.Core.{controller_at, errors_at, errors_valid}
 use Rattle.core_places.specs.Arrays.{controllers_in, errors_in}
 use Rattle.core_validity.specs.Tests.{errors_suit}
 use Rattle.core_validity.proofs.Laws.{all_below_more}
-use borrow.Author.Rules.{rules}
 use native.Mathlib.Omega.{arith}
 use Rattle.core_validity.proofs.errors.errors_suit.Goals as goal
 

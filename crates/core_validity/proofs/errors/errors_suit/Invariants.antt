@@ -1,13 +1,8 @@
 -- `ok` is the test of all places passed.
-use Prim.Native.Nat.{ℕ, ◌≤◌, ◌-◌}
-use mathlib.Core.Path.{◌≡◌, refl, ap, ◌∙◌}
-use Rattle.rules.specs.Repeat.{all_below}
-use Rattle.rules.specs.Core.{controller_at, errors_at, errors_valid}
+use Prim.Native.Nat.{◌≤◌, ◌-◌}
+use mathlib.Core.Path.{◌≡◌}
 use Rattle.core_places.specs.Arrays.{controllers_in, errors_in}
 use Rattle.core_validity.specs.Tests.{errors_suit}
-use Rattle.core_validity.proofs.Laws.{all_below_more}
-use borrow.Author.Rules.{rules}
-use native.Mathlib.Omega.{arith}
 use Rattle.core_validity.proofs.errors.errors_suit.Given as goal
 
 abbrev pub invariant-loop-c : goal.invariant-loop-c

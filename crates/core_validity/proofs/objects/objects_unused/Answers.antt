@@ -1,4 +1,4 @@
-use Prim.Native.Nat.{ℕ, ◌≤◌, ◌-◌}
+use Prim.Native.Nat.{ℕ}
 use mathlib.Core.Path.{◌≡◌, refl, sym, ap, ap₂, ◌∙◌}
 use lib.ListN.{length}
 use mathlib.Core.Bool.{◌&&◌}
@@ -7,7 +7,6 @@ use Rattle.core_places.specs.Arrays.{owners_in, mailboxes_in}
 use Rattle.core_places.proofs.Laws.{zip_3_length, owner_seen, mailbox_seen}
 use Rattle.core_validity.specs.Tests.{all_from}
 use Rattle.core_validity.proofs.Laws.{from_none, from_more}
-use borrow.Author.Rules.{rules}
 use native.Mathlib.Omega.{arith}
 use Rattle.core_validity.proofs.objects.objects_unused.Goals as goal
 

@@ -1,15 +1,11 @@
 -- `ok` is the test of all places passed, which begin at the count.
-use Prim.Native.Nat.{ℕ, ◌≤◌, ◌-◌}
-use mathlib.Core.Path.{◌≡◌, refl, sym, ap, ap₂, ◌∙◌}
+use Prim.Native.Nat.{◌≤◌, ◌-◌}
+use mathlib.Core.Path.{◌≡◌}
 use lib.ListN.{length}
 use mathlib.Core.Bool.{◌&&◌}
 use Rattle.rules.specs.Core.{owner_at, mailbox_at, owner_unused, mailbox_empty}
 use Rattle.core_places.specs.Arrays.{owners_in, mailboxes_in}
-use Rattle.core_places.proofs.Laws.{zip_3_length, owner_seen, mailbox_seen}
 use Rattle.core_validity.specs.Tests.{all_from}
-use Rattle.core_validity.proofs.Laws.{from_none, from_more}
-use borrow.Author.Rules.{rules}
-use native.Mathlib.Omega.{arith}
 use Rattle.core_validity.proofs.objects.objects_unused.Given as goal
 
 abbrev pub invariant-loop-h : goal.invariant-loop-h

@@ -1,6 +1,6 @@
-use Prim.Native.Nat.{ℕ, ◌≤◌, ◌-◌}
+use Prim.Native.Nat.{ℕ, ◌≤◌}
 use mathlib.Core.Path.{◌≡◌, refl, ap, ap₂, ◌∙◌}
-use Prim.Native.Nat.{◌<◌, min}
+use Prim.Native.Nat.{◌<◌}
 use mathlib.Core.Bool.{true, false, ◌&&◌}
 use lib.Dec.{ltb}
 use lib.ListN.{get_or}
@@ -11,7 +11,6 @@ use Rattle.core_places.proofs.Laws.{mailbox_seen}
 use Rattle.core_validity.specs.Tests.{objects_valid}
 use Rattle.core_validity.proofs.Laws.{all_below_more}
 use Rattle.core_validity.proofs.Parts.{byte_below}
-use borrow.Author.Rules.{rules}
 use native.Mathlib.Omega.{arith}
 use Rattle.core_validity.proofs.objects.objects_valid.Goals as goal
 

@@ -1,19 +1,9 @@
 -- `ok` is the test of all places passed; an owner is below the count if it is at most the last byte below it.
-use Prim.Native.Nat.{ℕ, ◌≤◌, ◌-◌}
-use mathlib.Core.Path.{◌≡◌, refl, ap, ap₂, ◌∙◌}
-use Prim.Native.Nat.{◌<◌, min}
-use mathlib.Core.Bool.{true, false, ◌&&◌}
-use lib.Dec.{ltb}
-use lib.ListN.{get_or}
-use Rattle.rules.specs.Repeat.{all_below}
-use Rattle.rules.specs.Core.{mailbox_at, mailbox_valid}
+use Prim.Native.Nat.{◌≤◌, ◌-◌}
+use mathlib.Core.Path.{◌≡◌}
+use Prim.Native.Nat.{min}
 use Rattle.core_places.specs.Arrays.{mailboxes_in}
-use Rattle.core_places.proofs.Laws.{mailbox_seen}
 use Rattle.core_validity.specs.Tests.{objects_valid}
-use Rattle.core_validity.proofs.Laws.{all_below_more}
-use Rattle.core_validity.proofs.Parts.{byte_below}
-use borrow.Author.Rules.{rules}
-use native.Mathlib.Omega.{arith}
 use Rattle.core_validity.proofs.objects.objects_valid.Given as goal
 
 abbrev pub invariant-loop-h : goal.invariant-loop-h

@@ -5,7 +5,6 @@ use mathlib.Core.Path.{refl}
 use mathlib.Core.Bool.{false, not}
 use lib.ListN.{length, get_or}
 use lib.Dec.{ltb}
-use borrow.Author.Rules.{rules}
 use borrow.Author.Tests.{ltb-true}
 use Rattle.laws.proofs.Tests.{right}
 use Rattle.core_validity.proofs.pools.lowest_member.Goals as goal

@@ -1,11 +1,10 @@
-use Prim.Native.Nat.{ℕ, ◌≤◌, ◌-◌}
+use Prim.Native.Nat.{ℕ}
 use native.Mathlib.Omega.{arith}
 use mathlib.Core.Path.{◌≡◌, refl, ap}
 use mathlib.Core.Bool.{Bool, false, cond}
 use lib.ListN.{get_or}
 use lib.Dec.{eqb}
 use Rattle.rules.specs.Repeat.{all_below}
-use Rattle.core_validity.specs.Pools.{own_pools}
 use Rattle.core_validity.proofs.Laws.{all_below_more}
 use Rattle.core_validity.proofs.pools.own_pools.Goals as goal
 

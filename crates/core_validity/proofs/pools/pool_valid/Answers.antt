@@ -1,6 +1,5 @@
 -- The object's kind picks the case.
 use native.Mathlib.Omega.{arith}
-use borrow.Author.Rules.{rules}
 use Rattle.core_validity.proofs.pools.pool_valid.Goals as goal
 
 pub overflow_cast-pool : goal.overflow_cast-pool

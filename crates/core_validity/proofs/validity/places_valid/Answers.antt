@@ -3,11 +3,9 @@ use Prim.Native.Nat.{◌≤◌}
 use mathlib.Core.Path.{◌≡◌}
 use mathlib.Core.Bool.{true, false}
 use lib.ListN.{length}
-use borrow.Author.Tests.{not-true, not-false}
 use Rattle.core_validity.specs.Arrays.{limits_of}
 use Rattle.core_validity.specs.Tests.{counts_suit}
 use Rattle.core_validity.proofs.Parts.{counts_some, counts_none, counts_fit, counts_refuse, initialised_parts, uninitialised_parts}
-use borrow.Author.Rules.{rules}
 use Rattle.core_validity.proofs.validity.places_valid.Goals as goal
 
 pub returns-then-not-counts : goal.returns-then-not-counts

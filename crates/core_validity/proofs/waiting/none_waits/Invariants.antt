@@ -1,13 +1,7 @@
 -- `ok` is the test of all objects passed.
-use Prim.Native.Nat.{ℕ, ◌≤◌, ◌-◌}
-use mathlib.Core.Path.{◌≡◌, refl, ap, ◌∙◌}
-use mathlib.Core.Bool.{false, not, ◌||◌}
-use lib.ListN.{get_or}
-use lib.Dec.{eqb}
-use Rattle.rules.specs.Repeat.{all_below}
+use Prim.Native.Nat.{◌≤◌, ◌-◌}
+use mathlib.Core.Path.{◌≡◌}
 use Rattle.core_validity.specs.Tests.{none_waits}
-use Rattle.core_validity.proofs.Laws.{all_below_more}
-use native.Mathlib.Omega.{arith}
 use Rattle.core_validity.proofs.waiting.none_waits.Given as goal
 
 abbrev pub invariant-loop-h : goal.invariant-loop-h

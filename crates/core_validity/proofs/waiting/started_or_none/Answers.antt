@@ -1,6 +1,5 @@
 -- A STARTED controller is not looked at further.
 use borrow.Author.Tests.{eq-eqb, ne_eqb}
-use borrow.Author.Rules.{rules}
 use Rattle.core_validity.proofs.waiting.started_or_none.Goals as goal
 
 pub returns-then-mode-eq-STARTED : goal.returns-then-mode-eq-STARTED

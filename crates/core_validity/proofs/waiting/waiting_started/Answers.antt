@@ -1,10 +1,9 @@
-use Prim.Native.Nat.{ℕ, ◌≤◌, ◌-◌, min}
+use Prim.Native.Nat.{ℕ, min}
 use mathlib.Core.Path.{◌≡◌, refl, ap, ◌∙◌}
 use lib.ListN.{get_or}
 use Rattle.rules.specs.Repeat.{all_below}
 use Rattle.core_validity.specs.Tests.{started_or_none, waiting_started}
 use Rattle.core_validity.proofs.Laws.{all_below_more}
-use borrow.Author.Rules.{rules}
 use native.Mathlib.Omega.{arith}
 use Rattle.core_validity.proofs.waiting.waiting_started.Goals as goal
 

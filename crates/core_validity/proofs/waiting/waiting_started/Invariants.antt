@@ -1,12 +1,7 @@
 -- `ok` is the test of all controllers passed.
-use Prim.Native.Nat.{ℕ, ◌≤◌, ◌-◌, min}
-use mathlib.Core.Path.{◌≡◌, refl, ap, ◌∙◌}
-use lib.ListN.{get_or}
-use Rattle.rules.specs.Repeat.{all_below}
-use Rattle.core_validity.specs.Tests.{started_or_none, waiting_started}
-use Rattle.core_validity.proofs.Laws.{all_below_more}
-use borrow.Author.Rules.{rules}
-use native.Mathlib.Omega.{arith}
+use Prim.Native.Nat.{◌≤◌, ◌-◌, min}
+use mathlib.Core.Path.{◌≡◌}
+use Rattle.core_validity.specs.Tests.{waiting_started}
 use Rattle.core_validity.proofs.waiting.waiting_started.Given as goal
 
 abbrev pub invariant-loop-c : goal.invariant-loop-c
