@@ -1,9 +1,9 @@
 -- A code whose last byte says a pool: the number of all its bytes is that of the others, and the last.
-use Prim.Native.Nat.{ℕ, zero, suc, ◌+◌, ◌*◌, ◌≤◌, ◌<◌, ◌^◌}
+use Prim.Native.Nat.{ℕ, ◌+◌, ◌≤◌}
 use native.Mathlib.Omega.{arith}
-use mathlib.Core.Path.{◌≡◌, refl, ap, sym, ◌∙◌}
+use mathlib.Core.Path.{◌≡◌, ap, sym, ◌∙◌}
 use mathlib.Core.List.{List, [], ◌∷◌, ◌++◌}
-use lib.ListN.{length, get_or, take, drop, length-append, length-take, length-drop}
+use lib.ListN.{length, get_or, drop, length-append, length-take, length-drop}
 use lib.Dec.{lit<, lit≤}
 use lib.Seq.{take-suc, get_or-drop}
 use Rattle.rules.specs.Bytes.{number, part}

@@ -1,10 +1,9 @@
 -- What a poll is handed of the state: places, memory and a sheet with room, and the core that the arrays stand for.
 use Prim.Native.Nat.{ℕ}
-use mathlib.Core.Path.{◌≡◌, refl, ap}
+use mathlib.Core.Path.{refl}
 use mathlib.Core.List.{List}
 use native.Mathlib.Omega.{arith}
 use lib.ListN.{length}
-use Rattle.rules.specs.Core.{Owner, Core}
 use Rattle.rules.specs.Chip.{chip}
 use Rattle.core_places.specs.Arrays.{controllers_in, mailboxes_in}
 use Rattle.core_places.proofs.Laws.{owned_in}

@@ -88,14 +88,12 @@ past : (k : ℕ) {kind : ℕ} → k ≤ kind → (kind ≡ k → ⊥) → k + 1 
 past k l n = omega arith
 
 -- so is 11, which is an arrival
-pub beyond : {kind : ℕ} → (kind ≡ 0 → ⊥) → (kind ≡ 1 → ⊥) → (kind ≡ 2 → ⊥) → (kind ≡ 3 → ⊥) → (kind ≡ 4 → ⊥) → (kind ≡ 5 → ⊥) → (kind ≡ 6 → ⊥) → (kind ≡ 7 → ⊥)
-    → (kind ≡ 8 → ⊥) → (kind ≡ 9 → ⊥) → (kind ≡ 10 → ⊥) → (kind ≡ 12 → ⊥) → (kind ≡ 13 → ⊥) → (kind ≡ 14 → ⊥) → (kind ≡ 15 → ⊥) → (kind ≡ 11) ⊎ (16 ≤ kind)
-beyond {kind} n0 n1 n2 n3 n4 n5 n6 n7 n8 n9 n10 n12 n13 n14 n15 =
-    go (past 10 (past 9 (past 8 (past 7 (past 6 (past 5 (past 4 (past 3 (past 2 (past 1 (past 0 (omega arith) n0) n1) n2) n3) n4) n5) n6) n7) n8) n9) n10) (ℕ_discrete kind 11)
+pub beyond : {kind : ℕ} → ((kind ≡ 11 → ⊥) → 16 ≤ kind) → (kind ≡ 11) ⊎ (16 ≤ kind)
+beyond {kind} rest = go (ℕ_discrete kind 11)
   where
-    go : 11 ≤ kind → Dec (kind ≡ 11) → (kind ≡ 11) ⊎ (16 ≤ kind)
-    go l (yes e) = inl e
-    go l (no n11) = inr (past 15 (past 14 (past 13 (past 12 (past 11 l n11) n12) n13) n14) n15)
+    go : Dec (kind ≡ 11) → (kind ≡ 11) ⊎ (16 ≤ kind)
+    go (yes e) = inl e
+    go (no n11) = inr (rest n11)
 
 -- the event, the state before it, and the memory
 module _ (sheet : List ℕ) (place value handle : ℕ) (bytes : List ℕ) (s : State) (ram : List ℕ) (ready : Stands s) where

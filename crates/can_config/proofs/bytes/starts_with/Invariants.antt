@@ -1,16 +1,12 @@
 -- `can_config::bytes::starts_with` meets its contract. The loop's invariant: `same` says that the bytes are long enough and that all
 -- bytes passed agree.
 use Prim.Native.Nat.{ℕ, ◌≤◌, ◌-◌}
-use native.Mathlib.Omega.{arith}
-use mathlib.Core.Path.{◌≡◌, refl, sym, ap, ◌∙◌}
-use mathlib.Core.Bool.{Bool, ◌&&◌, and-true, and_assoc}
+use mathlib.Core.Path.{◌≡◌}
+use mathlib.Core.Bool.{Bool, ◌&&◌}
 use mathlib.Core.List.{List}
 use lib.ListN.{length, get_or}
 use lib.Dec.{leb, eqb}
-use borrow.Author.Rules.{rules}
 use Rattle.rules.specs.Repeat.{all_below}
-use Rattle.core_validity.proofs.Laws.{all_below_more}
-use Rattle.can_config.proofs.Laws.{starts_same}
 use Rattle.can_config.proofs.bytes.starts_with.Given as goal
 
 -- the bytes agree at i

@@ -1,5 +1,4 @@
 -- The byte string is the header of the rules.
-use borrow.Author.Rules.{rules}
 use Rattle.can_config.proofs.header.header_matches.Goals as goal
 
 pub returns : goal.returns

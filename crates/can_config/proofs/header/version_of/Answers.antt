@@ -1,7 +1,6 @@
 -- Two bytes, the high one first.
 use native.Mathlib.Omega.{arith}
 use Rattle.rules.specs.Bytes.{number}
-use borrow.Author.Rules.{rules}
 use Rattle.can_config.proofs.header.version_of.Goals as goal
 
 pub returns : goal.returns

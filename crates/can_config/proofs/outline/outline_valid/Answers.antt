@@ -1,5 +1,4 @@
 -- The tests are those of the functions that are called.
-use borrow.Author.Rules.{rules}
 use Rattle.can_config.proofs.outline.outline_valid.Goals as goal
 
 pub returns : goal.returns

@@ -7,7 +7,6 @@ use Rattle.can_state.specs.Tests.{SettingsAlike}
 use Rattle.can_state.proofs.Laws.{settings_carried}
 use Rattle.can_config.specs.View.{view_setup}
 use Rattle.can_config.proofs.Sizes.{Sized, sizes}
-use borrow.Author.Rules.{rules}
 use Rattle.can_config.proofs.pools.pools_agree.Goals as goal
 
 pub pools_agree-requires : goal.pools_agree-requires

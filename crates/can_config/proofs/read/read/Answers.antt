@@ -1,14 +1,13 @@
 -- The tests together are the rules' test of the bytes, and where they are passed, the fields are what the bytes say.
-use Prim.Native.Nat.{ℕ, ◌≤◌}
+use Prim.Native.Nat.{ℕ}
 use native.Mathlib.Omega.{arith}
 use mathlib.Core.Path.{◌≡◌, refl, sym, ap, ap₂, ◌∙◌}
 use mathlib.Core.Bool.{Bool, false, ◌&&◌}
 use mathlib.Core.List.{List}
-use borrow.Author.Rules.{rules}
 use Rattle.rules.specs.Configuration.{Configuration, version_of, accepted_bytes, no_configuration}
 use Rattle.rules.specs.Can.{can_format}
 use Rattle.rules.specs.Chip.{chip}
-use Rattle.laws.proofs.Tests.{left, not_true, not_false}
+use Rattle.laws.proofs.Tests.{left}
 use Rattle.can_config.specs.declared.setup.Reading.{Reading}
 use Rattle.can_config.specs.View.{view_setup}
 use Rattle.can_config.specs.Reading.{Configuration_read, records_say, pools_judged}

@@ -11,7 +11,6 @@ use Rattle.rules.specs.Can.{Settings, can_format, settings_of, settings_valid}
 use Rattle.rules.specs.Chip.{chip}
 use Rattle.laws.proofs.Splices.{get_d_part}
 use Rattle.can_config.specs.Reading.{record_valid}
-use borrow.Author.Rules.{rules}
 use Rattle.can_config.proofs.record.read_record.Goals as goal
 
 -- tests of a kind, an owner and settings that the record says are tests of the record

@@ -8,7 +8,6 @@ use lib.Dec.{eqb, lit<, lit≤}
 use Rattle.rules.specs.Can.{can_format}
 use Rattle.laws.proofs.Splices.{get_d_part, part_part}
 use Rattle.can_config.proofs.Codes.{code_at}
-use borrow.Author.Rules.{rules}
 use Rattle.can_config.proofs.record.record_code.Goals as goal
 
 pub overflow_cast-result : goal.overflow_cast-result

@@ -5,7 +5,6 @@ use mathlib.Core.Path.{sym, ap}
 use lib.Dec.{eqb, lit<}
 use Rattle.rules.specs.Can.{can_format}
 use Rattle.laws.proofs.Splices.{get_d_part}
-use borrow.Author.Rules.{rules}
 use Rattle.can_config.proofs.record.record_owner.Goals as goal
 
 pub returns : goal.returns

@@ -7,7 +7,6 @@ use lib.Dec.{eqb, lit<}
 use borrow.Author.Tests.{eq-eqb, ne_eqb}
 use Rattle.rules.specs.Can.{can_format}
 use Rattle.laws.proofs.Splices.{get_d_part}
-use borrow.Author.Rules.{rules}
 use Rattle.can_config.proofs.record.record_pool.Goals as goal
 
 pub returns-then-kind-eq1 : goal.returns-then-kind-eq1

@@ -4,7 +4,6 @@ use lib.Dec.{lit<, lit≤}
 use Rattle.rules.specs.Bytes.{number}
 use Rattle.rules.specs.Can.{can_format}
 use Rattle.laws.proofs.Splices.{get_d_part, part_part}
-use borrow.Author.Rules.{rules}
 use Rattle.can_config.proofs.record.record_settings.Goals as goal
 
 pub returns : goal.returns

@@ -1,7 +1,6 @@
 -- The loop's invariant: `ok` is the test of all records passed, and their places are filled.
 use Prim.Native.Nat.{ℕ, ◌≤◌, ◌-◌}
-use native.Mathlib.Omega.{arith}
-use mathlib.Core.Path.{◌≡◌, refl, ◌∙◌}
+use mathlib.Core.Path.{◌≡◌}
 use mathlib.Core.Bool.{Bool}
 use mathlib.Core.List.{List}
 use Rattle.rules.specs.Repeat.{all_below, list_below}
@@ -9,12 +8,10 @@ use Rattle.rules.specs.Core.{unused_owner}
 use Rattle.rules.specs.Configuration.{object_record}
 use Rattle.rules.specs.Can.{can_format, unused_settings}
 use Rattle.rules.specs.Chip.{chip}
-use Rattle.core_places.specs.Arrays.{zip_with, owners_in}
-use Rattle.core_places.proofs.Laws.{zip_3_set, zip_4_set}
-use Rattle.core_validity.proofs.Laws.{all_below_more}
+use Rattle.core_places.specs.Arrays.{owners_in}
 use Rattle.can_state.specs.View.{settings_in}
 use Rattle.can_config.specs.Reading.{record_valid, owner_said, settings_said}
-use Rattle.can_config.proofs.Laws.{filled, fill_more}
+use Rattle.can_config.proofs.Laws.{filled}
 use Rattle.can_config.proofs.records.read_records.Given as goal
 
 -- record h is one that Init accepts

@@ -6,7 +6,6 @@ use Rattle.can_state.specs.View.{view}
 use Rattle.can_state.proofs.Sizes.{sizes}
 use Rattle.can_state.proofs.Gates.{full_gate_is, passed, lifted_performed}
 use Rattle.can_polls.proofs.Rooms.{room_for_all, held}
-use borrow.Author.Rules.{rules}
 use Rattle.can_polls.proofs.controllers.polled.Goals as goal
 
 pub slice_bounds-poll_controllers-end-8 : goal.slice_bounds-poll_controllers-end-8

@@ -1,7 +1,6 @@
 -- The poll is one case of the sweep.
 use Rattle.rules.specs.Polls as polls
 use Rattle.rules.specs.Calls as rules
-use borrow.Author.Rules.{rules}
 use Rattle.can_polls.proofs.objects.main_function_read.Goals as goal
 
 pub returns : goal.returns

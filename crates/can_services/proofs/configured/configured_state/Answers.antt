@@ -11,7 +11,6 @@ use Rattle.rules.specs.Chip.{chip}
 use Rattle.core_places.specs.Arrays.{zip_with, controllers_in, mailboxes_in, errors_in}
 use Rattle.can_config.specs.View.{view_setup}
 use Rattle.can_services.proofs.Stopped.{stopped_listed}
-use borrow.Author.Rules.{rules}
 use Rattle.can_services.proofs.configured.configured_state.Goals as goal
 
 -- nothing waits in any object

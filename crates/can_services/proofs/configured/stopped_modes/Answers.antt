@@ -1,4 +1,4 @@
-use Prim.Native.Nat.{◌≤◌, ◌-◌, min}
+use Prim.Native.Nat.{min}
 use native.Mathlib.Omega.{arith}
 use mathlib.Core.Path.{◌≡◌, refl, ap, ◌∙◌}
 use Rattle.rules.specs.Repeat.{list_below}
@@ -6,7 +6,6 @@ use Rattle.rules.specs.Mode.{STOPPED, UNINIT}
 use Rattle.rules.specs.Chip.{chip}
 use Rattle.can_config.proofs.Laws.{fill_more}
 use Rattle.can_services.proofs.Stopped.{modes_below, modes_limited}
-use borrow.Author.Rules.{rules}
 use Rattle.can_services.proofs.configured.stopped_modes.Goals as goal
 
 pub loop-c-init : goal.loop-c-init

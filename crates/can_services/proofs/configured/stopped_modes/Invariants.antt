@@ -1,13 +1,8 @@
 -- The loop's invariant: the controllers passed are STOPPED, the others at rest.
-use Prim.Native.Nat.{◌≤◌, ◌-◌, min}
-use native.Mathlib.Omega.{arith}
-use mathlib.Core.Path.{◌≡◌, refl, ap, ◌∙◌}
-use Rattle.rules.specs.Repeat.{list_below}
-use Rattle.rules.specs.Mode.{STOPPED, UNINIT}
+use Prim.Native.Nat.{◌≤◌, ◌-◌}
+use mathlib.Core.Path.{◌≡◌}
 use Rattle.rules.specs.Chip.{chip}
-use Rattle.can_config.proofs.Laws.{fill_more}
-use Rattle.can_services.proofs.Stopped.{modes_below, modes_limited}
-use borrow.Author.Rules.{rules}
+use Rattle.can_services.proofs.Stopped.{modes_below}
 use Rattle.can_services.proofs.configured.stopped_modes.Given as goal
 
 abbrev pub invariant-loop-c : goal.invariant-loop-c

@@ -23,7 +23,6 @@ use Rattle.can_state.specs.View.{view}
 use Rattle.can_state.proofs.Sizes.{sizes}
 use Rattle.can_state.proofs.Gates.{full_gate_is}
 use Rattle.can_services.proofs.Laws.{accepted_call, refused_call}
-use borrow.Author.Rules.{rules}
 use Rattle.can_services.proofs.deinit.deinit.Goals as goal
 
 pub refused-requires : goal.refused-requires

@@ -25,7 +25,6 @@ use Rattle.can_state.proofs.Gates.{full_gate_is}
 use Rattle.can_config.specs.View.{view_setup}
 use Rattle.can_services.specs.Checks.{init_checks}
 use Rattle.can_services.proofs.Laws.{accepted_call, refused_call}
-use borrow.Author.Rules.{rules}
 use Rattle.can_services.proofs.init.init.Goals as goal
 
 pub refused-requires : goal.refused-requires

@@ -17,7 +17,6 @@ use Rattle.can_state.specs.View.{view}
 use Rattle.can_state.specs.Sizes.{Sized}
 use Rattle.can_state.proofs.Sizes.{sizes}
 use Rattle.can_state.proofs.Gates.{sheet_gate_is, lifted_performed}
-use borrow.Author.Rules.{rules}
 use Rattle.can_services.proofs.questions.ask.Goals as goal
 
 pub slice_bounds-ask_controller-end : goal.slice_bounds-ask_controller-end

@@ -18,11 +18,6 @@ use Rattle.can_state.specs.View.{view}
 use Rattle.can_state.specs.Sizes.{Sized}
 use Rattle.can_state.proofs.Sizes.{sizes}
 use Rattle.can_state.proofs.Gates.{sheet_gate_is, sheet_passed, lifted_performed}
-use borrow.Author.Rules.{rules}
-use Rattle.can_services.proofs.set_controller_mode.set_controller_mode.Statement.{
-  statement,
-}
-use Rattle.can_services.proofs.set_controller_mode.set_controller_mode.Tie as tie
 
 pub set_controller_mode-reported-requires : goal.set_controller_mode-reported-requires
 set_controller_mode-reported-requires c =

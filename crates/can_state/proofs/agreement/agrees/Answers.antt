@@ -1,6 +1,5 @@
 -- What is read is what stands in the arrays.
 use mathlib.Core.Path.{refl}
-use borrow.Author.Rules.{rules}
 use Rattle.can_state.proofs.agreement.agrees.Goals as goal
 
 pub returns : goal.returns

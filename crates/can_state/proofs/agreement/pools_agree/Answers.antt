@@ -1,18 +1,12 @@
-use Prim.Native.Nat.{◌≤◌, ◌<◌, ◌-◌, min}
+use Prim.Native.Nat.{◌≤◌, ◌<◌, min}
 use native.Mathlib.Omega.{arith}
 use native.Mathlib.Numerals.{add-one}
 use mathlib.Core.Path.{◌≡◌, refl, sym, ◌∙◌}
-use mathlib.Core.List.{List}
 use lib.ListN.{length}
 use Rattle.rules.specs.Repeat.{all_below}
-use Rattle.rules.specs.Can as can
 use Rattle.rules.specs.Chip.{chip}
-use Rattle.core_places.specs.Arrays.{owners_in}
-use Rattle.core_validity.specs.Pools.{Tabled}
 use Rattle.core_validity.proofs.LowestTable.{table_fresh, table_more, table_places, seen_within}
-use Rattle.can_state.specs.Tests.{Carried, pools_agreed}
 use Rattle.can_state.proofs.Laws.{agreed_more, own_agreed}
-use borrow.Author.Rules.{rules}
 use Rattle.can_state.proofs.agreement.pools_agree.Goals as goal
 
 pub own_pools-requires : goal.own_pools-requires

@@ -1,20 +1,14 @@
 -- Where no pool is shared there is nothing to show of the rest. Else the table holds the lowest members among the objects passed, and `ok` is the
 -- test of those objects.
-use Prim.Native.Nat.{◌≤◌, ◌<◌, ◌-◌, min}
-use native.Mathlib.Omega.{arith}
-use native.Mathlib.Numerals.{add-one}
-use mathlib.Core.Path.{◌≡◌, refl, sym, ◌∙◌}
+use Prim.Native.Nat.{◌≤◌, ◌-◌}
+use mathlib.Core.Path.{◌≡◌}
 use mathlib.Core.List.{List}
 use lib.ListN.{length}
-use Rattle.rules.specs.Repeat.{all_below}
 use Rattle.rules.specs.Can as can
 use Rattle.rules.specs.Chip.{chip}
 use Rattle.core_places.specs.Arrays.{owners_in}
 use Rattle.core_validity.specs.Pools.{Tabled}
-use Rattle.core_validity.proofs.LowestTable.{table_fresh, table_more, table_places, seen_within}
 use Rattle.can_state.specs.Tests.{Carried, pools_agreed}
-use Rattle.can_state.proofs.Laws.{agreed_more, own_agreed}
-use borrow.Author.Rules.{rules}
 use Rattle.can_state.proofs.agreement.pools_agree.Given as goal
 
 abbrev pub invariant-loop-h : goal.invariant-loop-h

@@ -2,7 +2,6 @@
 use mathlib.Core.Path.{sym, ◌∙◌}
 use native.Mathlib.Omega.{arith}
 use Rattle.can_state.proofs.Laws.{settings_seen, settings_past}
-use borrow.Author.Rules.{rules}
 use Rattle.can_state.proofs.settings.settings_at.Goals as goal
 
 pub returns-then-h-payloads : goal.returns-then-h-payloads

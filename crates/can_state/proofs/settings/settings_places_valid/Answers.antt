@@ -2,7 +2,6 @@
 use mathlib.Core.Path.{◌∙◌}
 use Rattle.can_state.specs.View.{settings_in}
 use Rattle.can_state.proofs.Laws.{settings_length, settings_parts}
-use borrow.Author.Rules.{rules}
 use Rattle.can_state.proofs.settings.settings_places_valid.Goals as goal
 
 pub returns : goal.returns

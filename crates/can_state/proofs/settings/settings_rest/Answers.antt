@@ -1,4 +1,4 @@
-use Prim.Native.Nat.{ℕ, ◌≤◌, ◌-◌}
+use Prim.Native.Nat.{ℕ}
 use mathlib.Core.Path.{◌≡◌, refl, sym, ap, ◌∙◌}
 use Rattle.rules.specs.Can as can
 use Rattle.rules.specs.Configuration.{settings_at}
@@ -7,7 +7,6 @@ use lib.ListN.{length}
 use Rattle.core_validity.specs.Tests.{all_from}
 use Rattle.core_validity.proofs.Laws.{from_none, from_more}
 use Rattle.can_state.proofs.Laws.{settings_length, settings_seen}
-use borrow.Author.Rules.{rules}
 use native.Mathlib.Omega.{arith}
 use Rattle.can_state.proofs.settings.settings_rest.Goals as goal
 

@@ -1,15 +1,11 @@
 -- `ok` is the test of all places passed, which begin at the count.
-use Prim.Native.Nat.{ℕ, ◌≤◌, ◌-◌}
-use mathlib.Core.Path.{◌≡◌, refl, sym, ap, ◌∙◌}
+use Prim.Native.Nat.{◌≤◌, ◌-◌}
+use mathlib.Core.Path.{◌≡◌}
 use Rattle.rules.specs.Can as can
 use Rattle.rules.specs.Configuration.{settings_at}
 use Rattle.can_state.specs.View.{settings_in}
 use lib.ListN.{length}
 use Rattle.core_validity.specs.Tests.{all_from}
-use Rattle.core_validity.proofs.Laws.{from_none, from_more}
-use Rattle.can_state.proofs.Laws.{settings_length, settings_seen}
-use borrow.Author.Rules.{rules}
-use native.Mathlib.Omega.{arith}
 use Rattle.can_state.proofs.settings.settings_rest.Given as goal
 
 abbrev pub invariant-loop-h : goal.invariant-loop-h

@@ -1,4 +1,4 @@
-use Prim.Native.Nat.{ℕ, ◌≤◌, ◌-◌}
+use Prim.Native.Nat.{ℕ}
 use mathlib.Core.Path.{◌≡◌, refl, ap, ◌∙◌}
 use Rattle.rules.specs.Can as can
 use Rattle.rules.specs.Configuration.{settings_at}
@@ -9,7 +9,6 @@ use Rattle.rules.specs.Repeat.{all_below}
 use Rattle.core_validity.proofs.Laws.{all_below_more}
 use Rattle.can_state.specs.Tests.{settings_suit}
 use Rattle.can_state.proofs.Laws.{settings_seen}
-use borrow.Author.Rules.{rules}
 use native.Mathlib.Omega.{arith}
 use Rattle.can_state.proofs.settings.settings_suit.Goals as goal
 

@@ -1,17 +1,8 @@
 -- `ok` is the test of all places passed.
-use Prim.Native.Nat.{ℕ, ◌≤◌, ◌-◌}
-use mathlib.Core.Path.{◌≡◌, refl, ap, ◌∙◌}
-use Rattle.rules.specs.Can as can
-use Rattle.rules.specs.Configuration.{settings_at}
+use Prim.Native.Nat.{◌≤◌, ◌-◌}
+use mathlib.Core.Path.{◌≡◌}
 use Rattle.can_state.specs.View.{settings_in}
-use mathlib.Core.Bool.{false}
-use lib.ListN.{get_or}
-use Rattle.rules.specs.Repeat.{all_below}
-use Rattle.core_validity.proofs.Laws.{all_below_more}
 use Rattle.can_state.specs.Tests.{settings_suit}
-use Rattle.can_state.proofs.Laws.{settings_seen}
-use borrow.Author.Rules.{rules}
-use native.Mathlib.Omega.{arith}
 use Rattle.can_state.proofs.settings.settings_suit.Given as goal
 
 abbrev pub invariant-loop-h : goal.invariant-loop-h

@@ -6,7 +6,6 @@ use Rattle.can_state.specs.View.{view}
 use Rattle.can_state.specs.Tests.{SettingsAlike}
 use Rattle.can_state.proofs.Sizes.{sizes}
 use Rattle.can_state.proofs.Laws.{settings_carried, valid_parts}
-use borrow.Author.Rules.{rules}
 use Rattle.can_state.proofs.validity.valid.Goals as goal
 
 pub slice_bounds-places_valid-end-8 : goal.slice_bounds-places_valid-end-8

@@ -23,12 +23,13 @@ poll_controllers-requires c =
 pub returns : goal.returns
 returns c =
     let a = c.args in
-    let kept = c.poll_controllers.auto in record {
+    let kept = c.poll_controllers.auto in
+    record {
       left = (λ s v held errors.
           left_is (lifted_performed s (rw (full_gate_is s v (length a.sheet.now) a.ram.now c.full_gate-gate.ensures) at (c.poll_controllers.ensures s.core held errors))));
       places = (
-        record { first = kept.1.1.1.0 ∙ c.requires.controller_count_le_controllers.1.first; second = kept.1.1.1.1.0 ∙ c.requires.controller_count_le_controllers.1.second; third = kept.1.1.1.1.1.0 ∙ c.requires.controller_count_le_controllers.1.third },
-        record { first = kept.1.1.1.1.1.1.0 ∙ c.requires.controller_count_le_controllers.2.first; second = kept.1.1.1.1.1.1.1.0 ∙ c.requires.controller_count_le_controllers.2.second; third = kept.1.1.1.1.1.1.1.1.0 ∙ c.requires.controller_count_le_controllers.2.third },
-        record { first = kept.1.1.1.1.1.1.1.1.1.1.1.0 ∙ c.requires.object_count_le_objects.2.first; second = kept.1.1.1.1.1.1.1.1.1.1.1.1.0 ∙ c.requires.object_count_le_objects.2.second; third = kept.1.1.1.1.1.1.1.1.1.1.1.1.1.0 ∙ c.requires.object_count_le_objects.2.third },
+        record { first = kept.modes ∙ c.requires.controller_count_le_controllers.1.first; second = kept.requests ∙ c.requires.controller_count_le_controllers.1.second; third = kept.marks ∙ c.requires.controller_count_le_controllers.1.third },
+        record { first = kept.recoverings ∙ c.requires.controller_count_le_controllers.2.first; second = kept.tx_errors ∙ c.requires.controller_count_le_controllers.2.second; third = kept.rx_errors ∙ c.requires.controller_count_le_controllers.2.third },
+        record { first = kept.pendings ∙ c.requires.object_count_le_objects.2.first; second = kept.dones ∙ c.requires.object_count_le_objects.2.second; third = kept.fulls ∙ c.requires.object_count_le_objects.2.third },
       );
     }

@@ -1,5 +1,6 @@
 -- Each kind makes its call: what the arm asks for the state has, and what it leaves is what the rules say of the call of that kind. A valid
 -- state leads to a valid one.
+use mathlib.Core.Path.{◌≡◌}
 use Prim.Native.Nat.{◌<◌, ◌^◌}
 use native.Mathlib.Omega.{arith}
 use native.Mathlib.Nat.{mod-eq_of_lt}
@@ -152,8 +153,8 @@ returns-in-0 c =
     let a = c.args in
     let s = state in
     made_by a.sheet.now a.place a.value a.handle a.bytes.now s a.ram.now c.requires 0 c.in-0.is
-    c.init.ensures.0
-    c.init.ensures.1
+    c.init.ensures.left
+    c.init.ensures.sized
 
 pub returns-in-1 : goal.returns-in-1
 unfolding performed
@@ -164,8 +165,8 @@ returns-in-1 c =
     let a = c.args in
     let s = state in
     made_by a.sheet.now a.place a.value a.handle a.bytes.now s a.ram.now c.requires 1 c.in-1.is
-    c.deinit.ensures.0
-    c.deinit.ensures.1
+    c.deinit.ensures.left
+    c.deinit.ensures.sized
 
 pub returns-in-2 : goal.returns-in-2
 unfolding performed
@@ -176,8 +177,8 @@ returns-in-2 c =
     let a = c.args in
     let s = state in
     made_by a.sheet.now a.place a.value a.handle a.bytes.now s a.ram.now c.requires 2 c.in-2.is
-    (c.set_mode.ensures.0 (view s) a.ram.now c.requires.sound (controlled s))
-    (sized_again s c.requires.sized c.set_mode.ensures.1 (errors s c.requires.sized) (mailboxes s c.requires.sized))
+    (c.set_mode.ensures.left (view s) a.ram.now c.requires.sound (controlled s))
+    (sized_again s c.requires.sized c.set_mode.ensures.places (errors s c.requires.sized) (mailboxes s c.requires.sized))
 
 pub returns-in-3 : goal.returns-in-3
 unfolding performed
@@ -201,8 +202,8 @@ returns-in-4 c =
     let s = state in
     let short : a.handle < 2 ^ 16 = omega arith in
     made_by a.sheet.now a.place a.value a.handle a.bytes.now s a.ram.now c.requires 4 c.in-4.is
-    (rw (mod-eq_of_lt short) (c.write.ensures.0 (view s) c.requires.sound (held s c.requires.sized) (pooled s c.requires.sized) refl))
-    (sized_again s c.requires.sized (controllers s c.requires.sized) (errors s c.requires.sized) c.write.ensures.1)
+    (rw (mod-eq_of_lt short) (c.write.ensures.left (view s) c.requires.sound (held s c.requires.sized) (pooled s c.requires.sized) refl))
+    (sized_again s c.requires.sized (controllers s c.requires.sized) (errors s c.requires.sized) c.write.ensures.places)
 
 pub returns-in-5 : goal.returns-in-5
 unfolding performed calls.main_function_write polls.main_function_write
@@ -213,8 +214,8 @@ returns-in-5 c =
     let a = c.args in
     let s = state in
     made_by a.sheet.now a.place a.value a.handle a.bytes.now s a.ram.now c.requires 5 c.in-5.is
-    (c.objects.ensures.0 (view s) c.requires.sound (rooms.held c.requires.sized))
-    (sized_again s c.requires.sized (controllers s c.requires.sized) (errors s c.requires.sized) c.objects.ensures.1)
+    (c.objects.ensures.left (view s) c.requires.sound (rooms.held c.requires.sized))
+    (sized_again s c.requires.sized (controllers s c.requires.sized) (errors s c.requires.sized) c.objects.ensures.places)
 
 pub returns-in-6 : goal.returns-in-6
 unfolding performed calls.main_function_read polls.main_function_read
@@ -225,8 +226,8 @@ returns-in-6 c =
     let a = c.args in
     let s = state in
     made_by a.sheet.now a.place a.value a.handle a.bytes.now s a.ram.now c.requires 6 c.in-6.is
-    (c.objects-in-6.ensures.0 (view s) c.requires.sound (rooms.held c.requires.sized))
-    (sized_again s c.requires.sized (controllers s c.requires.sized) (errors s c.requires.sized) c.objects-in-6.ensures.1)
+    (c.objects-in-6.ensures.left (view s) c.requires.sound (rooms.held c.requires.sized))
+    (sized_again s c.requires.sized (controllers s c.requires.sized) (errors s c.requires.sized) c.objects-in-6.ensures.places)
 
 pub returns-in-7 : goal.returns-in-7
 unfolding performed calls.main_function_mode polls.main_function_mode
@@ -237,8 +238,8 @@ returns-in-7 c =
     let a = c.args in
     let s = state in
     made_by a.sheet.now a.place a.value a.handle a.bytes.now s a.ram.now c.requires 7 c.in-7.is
-    (c.controllers.ensures.0 (view s) c.requires.sound (rooms.held c.requires.sized) refl)
-    (sized_again s c.requires.sized c.controllers.ensures.1.0 c.controllers.ensures.1.1 c.controllers.ensures.1.2)
+    (c.controllers.ensures.left (view s) c.requires.sound (rooms.held c.requires.sized) refl)
+    (sized_again s c.requires.sized c.controllers.ensures.places.0 c.controllers.ensures.places.1 c.controllers.ensures.places.2)
 
 pub returns-in-8 : goal.returns-in-8
 unfolding performed calls.main_function_bus_off polls.main_function_bus_off
@@ -249,8 +250,8 @@ returns-in-8 c =
     let a = c.args in
     let s = state in
     made_by a.sheet.now a.place a.value a.handle a.bytes.now s a.ram.now c.requires 8 c.in-8.is
-    (c.controllers-in-8.ensures.0 (view s) c.requires.sound (rooms.held c.requires.sized) refl)
-    (sized_again s c.requires.sized c.controllers-in-8.ensures.1.0 c.controllers-in-8.ensures.1.1 c.controllers-in-8.ensures.1.2)
+    (c.controllers-in-8.ensures.left (view s) c.requires.sound (rooms.held c.requires.sized) refl)
+    (sized_again s c.requires.sized c.controllers-in-8.ensures.places.0 c.controllers-in-8.ensures.places.1 c.controllers-in-8.ensures.places.2)
 
 pub returns-in-9 : goal.returns-in-9
 unfolding performed
@@ -261,8 +262,8 @@ returns-in-9 c =
     let a = c.args in
     let s = state in
     made_by a.sheet.now a.place a.value a.handle a.bytes.now s a.ram.now c.requires 9 c.in-9.is
-    (c.sent.ensures.0 (view s) a.ram.now a.sheet.now c.requires.sound (held s c.requires.sized))
-    (sized_again s c.requires.sized (controllers s c.requires.sized) (errors s c.requires.sized) c.sent.ensures.1)
+    (c.sent.ensures.left (view s) a.ram.now a.sheet.now c.requires.sound (held s c.requires.sized))
+    (sized_again s c.requires.sized (controllers s c.requires.sized) (errors s c.requires.sized) c.sent.ensures.places)
 
 pub returns-in-10 : goal.returns-in-10
 unfolding performed
@@ -273,8 +274,8 @@ returns-in-10 c =
     let a = c.args in
     let s = state in
     made_by a.sheet.now a.place a.value a.handle a.bytes.now s a.ram.now c.requires 10 c.in-10.is
-    (c.off.ensures.0 (view s) a.ram.now a.sheet.now c.requires.sound (controlled s))
-    (sized_again s c.requires.sized c.off.ensures.1 (errors s c.requires.sized) (mailboxes s c.requires.sized))
+    (c.off.ensures.left (view s) a.ram.now a.sheet.now c.requires.sound (controlled s))
+    (sized_again s c.requires.sized c.off.ensures.places (errors s c.requires.sized) (mailboxes s c.requires.sized))
 
 pub returns-in-12 : goal.returns-in-12
 unfolding performed
@@ -321,8 +322,8 @@ returns-in-15 c =
     let a = c.args in
     let s = state in
     made_by a.sheet.now a.place a.value a.handle a.bytes.now s a.ram.now c.requires 15 c.in-15.is
-    (c.counted.ensures.0 (view s) a.ram.now c.requires.sound (controlled s) refl)
-    (sized_again s c.requires.sized c.counted.ensures.1.0 c.counted.ensures.1.1 (mailboxes s c.requires.sized))
+    (c.counted.ensures.left (view s) a.ram.now c.requires.sound (controlled s) refl)
+    (sized_again s c.requires.sized c.counted.ensures.places.0 c.counted.ensures.places.1 (mailboxes s c.requires.sized))
 
 pub returns-in_default : goal.returns-in_default
 unfolding performed
@@ -332,8 +333,7 @@ returns-in_default c =
     a.codes.now a.masks.now in
     let a = c.args in
     let s = state in
-    let no = c.in_default.rest in
     made_otherwise a.sheet.now a.place a.value a.handle a.bytes.now s a.ram.now c.requires
-    (beyond no.0.0.0.0.0.0.0.0.0.0.0.0.0.0.1 no.0.0.0.0.0.0.0.0.0.0.0.0.0.1 no.0.0.0.0.0.0.0.0.0.0.0.0.1 no.0.0.0.0.0.0.0.0.0.0.0.1 no.0.0.0.0.0.0.0.0.0.0.1 no.0.0.0.0.0.0.0.0.0.1 no.0.0.0.0.0.0.0.0.1 no.0.0.0.0.0.0.0.1 no.0.0.0.0.0.0.1 no.0.0.0.0.0.1 no.0.0.0.0.1 no.0.0.0.1 no.0.0.1 no.0.1 no.1)
-    (c.arrive.ensures.0 (view s) c.requires.sound (controlled s) (held s c.requires.sized) refl)
-    (sized_again s c.requires.sized (controllers s c.requires.sized) (errors s c.requires.sized) c.arrive.ensures.1)
+    (beyond (λ (other : c.args.kind ≡ 11 → ⊥). omega arith))
+    (c.arrive.ensures.left (view s) c.requires.sound (controlled s) (held s c.requires.sized) refl)
+    (sized_again s c.requires.sized (controllers s c.requires.sized) (errors s c.requires.sized) c.arrive.ensures.places)

@@ -1,7 +1,6 @@
 -- The tests on the way to each return pick the first reason that applies.
 use mathlib.Core.Path.{sym}
 use Rattle.rules.specs.Reason.{first_reason}
-use borrow.Author.Rules.{rules}
 use Rattle.can_transmission.proofs.judge.judge_frame.Goals as goal
 
 pub returns-then-not-fits : goal.returns-then-not-fits

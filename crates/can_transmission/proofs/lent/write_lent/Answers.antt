@@ -21,7 +21,6 @@ use Rattle.core_places.proofs.Laws.{owned_in, pooled_in}
 use Rattle.core_services.proofs.Laws.{room_then}
 use Rattle.can_layout.proofs.Placed.{laid_whole}
 use Rattle.can_transmission.proofs.Writes.{room_for}
-use borrow.Author.Rules.{rules}
 use Rattle.can_transmission.proofs.lent.write_lent.Goals as goal
 
 same_object : {a b : ℕ} → ◌≡◌ {A = Answer} (taken_by a) (taken_by b) → a ≡ b

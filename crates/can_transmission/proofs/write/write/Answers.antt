@@ -13,7 +13,6 @@ use Rattle.can_state.specs.Tests.{SettingsAlike}
 use Rattle.can_state.proofs.Sizes.{sizes}
 use Rattle.can_state.proofs.Laws.{settings_carried}
 use Rattle.can_state.proofs.Gates.{full_gate_is, passed}
-use borrow.Author.Rules.{rules}
 use Rattle.can_transmission.proofs.write.write.Goals as goal
 
 pub slice_bounds-settings_at-end : goal.slice_bounds-settings_at-end
