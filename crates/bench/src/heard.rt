@@ -4,6 +4,7 @@ use bench_lines::reader;
 use bench_lines::reader::{Reader, advanced, will_read};
 use bench_plain::night::more;
 use bench_script::command::says_nothing;
+use std::io::Read;
 
 // The reader, how many lines were whole so far, and whether the last of them waits to be played: it is whole and says something.
 #[derive(Clone, Copy)]
@@ -32,9 +33,9 @@ fn is_said(reader: Reader, line: &[u8]) -> bool {
 }
 
 // One step on.
-fn stepped(heard: Heard, input: &mut [u8], line: &mut [u8]) -> Heard {
+fn stepped<R: Read>(source: &mut R, heard: Heard, input: &mut [u8], line: &mut [u8]) -> Heard {
     let before = heard.reader;
-    let reader = advanced(before, input, line);
+    let reader = advanced(source, before, input, line);
     let lines = if reader.whole {
         more(heard.lines)
     } else {
@@ -56,11 +57,11 @@ fn is_due(heard: Heard, input: &[u8]) -> bool {
 
 // Goes on to the next line that says something, or to the end of what is read of the input. The steps are counted down, from more than
 // a piece has lines.
-pub fn sought(start: Heard, input: &mut [u8], line: &mut [u8]) -> Heard {
+pub fn sought<R: Read>(source: &mut R, start: Heard, input: &mut [u8], line: &mut [u8]) -> Heard {
     let mut heard = start;
     let mut steps: u64 = 0xFFFFFFFFFFFFFFFF;
     while 0 < steps {
-        heard = stepped(heard, input, line);
+        heard = stepped(source, heard, input, line);
         steps = if is_due(heard, input) { 0 } else { steps - 1 };
     }
     heard

@@ -13,7 +13,7 @@ use bench_script::command::{LARGEST_MEMORY, LARGEST_SHEET};
 use bench_words::bytes::{LONGEST_LINE, MOST_BYTES};
 use bench_words::split::between;
 use can::{RAM_SIZE, State};
-use libc::STDOUT_FILENO;
+use std::io::Read;
 
 // A line, and the CR before its LF or the byte that makes a line too long.
 const LINE_ROOM: usize = LONGEST_LINE + 1;
@@ -32,8 +32,8 @@ fn empty_book() -> [u64; book::ROOM]
 }
 
 // Writes a part of the output buffer. Where that fails the night is stopped.
-fn written_part(desk: Desk, out: &[u8], from: usize, to: usize) -> Desk {
-    let done = io::write_all(STDOUT_FILENO, between(out, from, to));
+fn written_part(stdout: &impl Print, desk: Desk, out: &[u8], from: usize, to: usize) -> Desk {
+    let done = stdout.write_all(between(out, from, to)).is_ok();
     let mut next = desk;
     next.at = 0;
     next.stuck = desk.stuck | !done;
@@ -41,18 +41,18 @@ fn written_part(desk: Desk, out: &[u8], from: usize, to: usize) -> Desk {
 }
 
 // Writes what stands in the output buffer before the lists.
-fn written(desk: Desk, out: &[u8]) -> Desk {
-    written_part(desk, out, 0, desk.at)
+fn written(stdout: &impl Print, desk: Desk, out: &[u8]) -> Desk {
+    written_part(stdout, desk, out, 0, desk.at)
 }
 
 // The same once it is half full: the answer to a line takes less than the other half.
-fn written_if_full(night: Night, out: &[u8]) -> Night {
+fn written_if_full(stdout: &impl Print, night: Night, out: &[u8]) -> Night {
     let desk = night.desk;
     if desk.at < OUTPUT / 2 {
         return night;
     }
     let state = night.state;
-    let next = written(desk, out);
+    let next = written(stdout, desk, out);
     Night {
         state: state,
         desk: next,
@@ -60,13 +60,13 @@ fn written_if_full(night: Night, out: &[u8]) -> Night {
 }
 
 // The same before a step that reads.
-fn written_if_reading(night: Night, reads: bool, out: &[u8]) -> Night {
+fn written_if_reading(stdout: &impl Print, night: Night, reads: bool, out: &[u8]) -> Night {
     if !reads {
         return night;
     }
     let state = night.state;
     let desk = night.desk;
-    let next = written(desk, out);
+    let next = written(stdout, desk, out);
     Night {
         state: state,
         desk: next,
@@ -86,6 +86,7 @@ fn at_line(night: Night, line: u64) -> Night {
 
 // Plays the line that is read, if it says something.
 fn played(
+    stdout: &impl Print,
     night: Night,
     heard: Heard,
     line: &[u8],
@@ -111,7 +112,7 @@ fn played(
         out,
         book,
     );
-    written_if_full(next, out)
+    written_if_full(stdout, next, out)
 }
 
 // A night, and how far its script is read.
@@ -122,7 +123,9 @@ struct Playing {
 }
 
 // On to the next line that says something, which is played. What is played so far is written out before a read that may wait.
-fn step(
+fn step<R: Read>(
+    source: &mut R,
+    stdout: &impl Print,
     playing: Playing,
     input: &mut [u8],
     line: &mut [u8],
@@ -136,9 +139,11 @@ fn step(
     let last = playing.night;
     let before = playing.heard;
     let reader = before.reader;
-    let mut night = written_if_reading(last, will_read(reader, input), out);
-    let heard = sought(before, input, line);
-    night = played(night, heard, line, memory, sheet, bytes, draft, out, book);
+    let mut night = written_if_reading(stdout, last, will_read(reader, input), out);
+    let heard = sought(source, before, input, line);
+    night = played(
+        stdout, night, heard, line, memory, sheet, bytes, draft, out, book,
+    );
     Playing {
         night: night,
         heard: heard,
@@ -155,7 +160,9 @@ fn is_over(playing: Playing) -> bool {
 }
 
 // Plays the script to its end. Nothing says that an input ends, so the steps are counted down, from more than there can be.
-fn all(
+fn all<R: Read>(
+    source: &mut R,
+    stdout: &impl Print,
     start: Playing,
     input: &mut [u8],
     line: &mut [u8],
@@ -169,7 +176,9 @@ fn all(
     let mut playing = start;
     let mut steps: u64 = 0xFFFFFFFFFFFFFFFF;
     while 0 < steps {
-        playing = step(playing, input, line, memory, sheet, bytes, draft, out, book);
+        playing = step(
+            source, stdout, playing, input, line, memory, sheet, bytes, draft, out, book,
+        );
         steps = if is_over(playing) { 0 } else { steps - 1 };
     }
     playing
@@ -186,66 +195,89 @@ fn start(plain: bool) -> Playing {
 }
 
 // Writes the totals of a night behind what stands in the output buffer, the frames that still wait, and the heading of the first list.
-fn summed_up(state: State, desk: Desk, ram: &[u8], out: &mut [u8], book: &[u64]) -> Desk {
+fn summed_up(
+    stdout: &impl Print,
+    state: State,
+    desk: Desk,
+    ram: &[u8],
+    out: &mut [u8],
+    book: &[u64],
+) -> Desk {
     let mut last = desk;
     last.at = summary::totals(out, desk.at, book, desk.unreadable);
     last.at = waiting::list(out, last.at, state, book, ram);
     last.at = summary::taken_heading(out, last.at, book);
-    written(last, out)
+    written(stdout, last, out)
 }
 
 // Writes the list of frames that a bus-off took, and the heading of the second list.
-fn taken_listed(desk: Desk, out: &mut [u8], book: &[u64]) -> Desk {
+fn taken_listed(stdout: &impl Print, desk: Desk, out: &mut [u8], book: &[u64]) -> Desk {
     let lists = desk.lists;
-    let mut last = written_part(desk, out, TAKEN_AT, lists.taken_at);
+    let mut last = written_part(stdout, desk, out, TAKEN_AT, lists.taken_at);
     last.at = summary::unlisted(out, 0, lists.taken_unlisted);
     last.at = summary::cancelled_heading(out, last.at, book);
-    written(last, out)
+    written(stdout, last, out)
 }
 
 // Writes the list of frames that a stop cancelled.
-fn cancelled_listed(desk: Desk, out: &mut [u8]) -> Desk {
+fn cancelled_listed(stdout: &impl Print, desk: Desk, out: &mut [u8]) -> Desk {
     let lists = desk.lists;
-    let mut last = written_part(desk, out, CANCELLED_AT, lists.cancelled_at);
+    let mut last = written_part(stdout, desk, out, CANCELLED_AT, lists.cancelled_at);
     last.at = summary::unlisted(out, 0, lists.cancelled_unlisted);
-    written(last, out)
+    written(stdout, last, out)
 }
 
 // `end LINES BAD`: lines read, and lines not understood.
-fn counted(desk: Desk, lines: u64, out: &mut [u8]) -> Desk {
+fn counted(stdout: &impl Print, desk: Desk, lines: u64, out: &mut [u8]) -> Desk {
     let mut last = desk;
     last.at = reports::ended(out, desk.at, lines, desk.unreadable);
-    written(last, out)
+    written(stdout, last, out)
 }
 
 // The end of a night in plain words: its totals, the frames that still wait, and those that a bus-off took or a stop cancelled.
-fn told(state: State, desk: Desk, ram: &[u8], out: &mut [u8], book: &[u64]) -> Desk {
-    let mut last = summed_up(state, desk, ram, out, book);
-    last = taken_listed(last, out, book);
-    cancelled_listed(last, out)
+fn told(
+    stdout: &impl Print,
+    state: State,
+    desk: Desk,
+    ram: &[u8],
+    out: &mut [u8],
+    book: &[u64],
+) -> Desk {
+    let mut last = summed_up(stdout, state, desk, ram, out, book);
+    last = taken_listed(stdout, last, out, book);
+    cancelled_listed(stdout, last, out)
 }
 
 // The end of a night that was played whole.
-fn finished(night: Night, lines: u64, ram: &[u8], out: &mut [u8], book: &[u64]) -> Desk {
+fn finished(
+    stdout: &impl Print,
+    night: Night,
+    lines: u64,
+    ram: &[u8],
+    out: &mut [u8],
+    book: &[u64],
+) -> Desk {
     let state = night.state;
     let desk = night.desk;
     if desk.plain {
-        return told(state, desk, ram, out, book);
+        return told(stdout, state, desk, ram, out, book);
     }
-    counted(desk, lines, out)
+    counted(stdout, desk, lines, out)
 }
 
 // Says on standard error what went wrong: the output, or lines that were not understood.
-fn judged(desk: Desk, lines: u64) {
+fn judged(stderr: &impl Print, desk: Desk, lines: u64) {
     if desk.stuck {
-        report::unwritten(lines);
+        report::unwritten(stderr, lines);
         return;
     }
-    report::misunderstood(desk, lines);
+    report::misunderstood(stderr, desk, lines);
 }
 
 // A night that was played to its end, or whose output could not be written.
 fn closed(
+    stdout: &impl Print,
+    stderr: &impl Print,
     night: Night,
     lines: u64,
     memory: &[u8],
@@ -254,32 +286,41 @@ fn closed(
 ) {
     let desk = night.desk;
     if desk.stuck {
-        judged(desk, lines);
+        judged(stderr, desk, lines);
         return;
     }
     let own = of_bytes(RAM_SIZE, memory);
     let state = night.state;
     book::count_left_over(book, state);
-    let last = finished(night, lines, &memory[..own], out, book);
-    judged(last, lines);
+    let last = finished(stdout, night, lines, &memory[..own], out, book);
+    judged(stderr, last, lines);
 }
 
 // Ends the night. A script that could not be read to its end has no totals.
-fn ended(playing: Playing, memory: &[u8], out: &mut [u8; OUT_ROOM], book: &mut [u64; book::ROOM]) {
+fn ended(
+    stdout: &impl Print,
+    stderr: &impl Print,
+    playing: Playing,
+    memory: &[u8],
+    out: &mut [u8; OUT_ROOM],
+    book: &mut [u64; book::ROOM],
+) {
     let night = playing.night;
     let heard = playing.heard;
     let reader = heard.reader;
     if reader.failed {
         let desk = night.desk;
-        written(desk, out);
-        report::unread(heard.lines);
+        written(stdout, desk, out);
+        report::unread(stderr, heard.lines);
         return;
     }
-    closed(night, heard.lines, memory, out, book);
+    closed(stdout, stderr, night, heard.lines, memory, out, book);
 }
 
 // Plays the night on standard input, from a fresh bench.
-pub fn play(plain: bool) {
+pub fn play(rt: HostRuntime, plain: bool) {
+    let mut stdin = rt.stdin();
+    let stdout = rt.stdout();
     let mut input = io::large_buffer();
     let mut out = output();
     let mut book = empty_book();
@@ -290,6 +331,8 @@ pub fn play(plain: bool) {
     let mut draft = [0u8; draft::ROOM];
     draft::begin(&mut draft, 0);
     let end = all(
+        &mut stdin,
+        &stdout,
         start(plain),
         &mut input,
         &mut line,
@@ -300,5 +343,5 @@ pub fn play(plain: bool) {
         &mut out,
         &mut book,
     );
-    ended(end, &memory, &mut out, &mut book);
+    ended(&stdout, &rt.stderr(), end, &memory, &mut out, &mut book);
 }

@@ -10,16 +10,17 @@ mod report;
 mod style;
 mod terse;
 
-use libc::STDERR_FILENO;
 use style::Style;
 
-fn main() {
-    let style = style::chosen();
+fn main(rt: HostRuntime) {
+    let style = style::chosen(&rt);
     match style {
-        Style::Plain => input::play(true),
-        Style::Words => input::play(false),
+        Style::Plain => input::play(rt, true),
+        Style::Words => input::play(rt, false),
         Style::Unknown => {
-            io::write_all(STDERR_FILENO, b"bench: the style is plain or words\n");
+            let _ = rt
+                .stderr()
+                .write_all(b"bench: the style is plain or words\n");
         }
     }
 }

@@ -1,5 +1,7 @@
 // The style of the output, chosen by an argument.
 use bench_words::split::same;
+use std::env::FillError;
+use std::rt::Env;
 
 #[derive(Clone, Copy)]
 pub enum Style {
@@ -9,12 +11,13 @@ pub enum Style {
 }
 
 // The first argument names it; without one it is plain.
-pub fn chosen() -> Style {
-    if os::arg_count() < 2 {
-        return Style::Plain;
-    }
+pub fn chosen(rt: &impl Env) -> Style {
     let mut buffer = [0u8; 16];
-    let count = os::arg(1, &mut buffer);
+    let count = match rt.arg(1, &mut buffer) {
+        Ok(count) => count,
+        Err(FillError::NotPresent) => return Style::Plain,
+        Err(FillError::TooLong) => return Style::Unknown,
+    };
     let name = &buffer[..count];
     if same(name, b"plain") {
         return Style::Plain;

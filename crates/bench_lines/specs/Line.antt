@@ -1,6 +1,6 @@
 -- Lines of the input. docs/BENCH.md: a line ends with LF or CR LF, and the last one may end without.
 use Rattle.std.specs.Prelude.{ℕ, ◌+◌, ◌-◌, ◌≤◌, ◌<◌, min, ◌≡◌, Bool, true, false, not, cond, ◌&&◌, List, length, get_or, take, drop, eqb, ltb, leb}
-use Rattle.bytes.specs.Bytes.{index_of}
+use Rattle.std.specs.List.{position_or_len}
 use Rattle.rules.specs.Bytes.{splice}
 use Rattle.bench_lines.specs.declared.reader.Reader.{Reader}
 
@@ -9,6 +9,10 @@ LF = 10
 
 abbrev pub CR : ℕ
 CR = 13
+
+-- the first place of a byte in a list; its length where there is none
+abbrev pub index_of : ℕ → List ℕ → ℕ
+index_of byte bytes = position_or_len (λ b. eqb b byte) bytes
 
 -- what is said of a line that is longer than its room: more than any count
 abbrev pub TOO_LONG : ℕ

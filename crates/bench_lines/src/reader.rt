@@ -1,12 +1,12 @@
-// Reading lines from standard input. The input comes in pieces, each of which a buffer holds; what a piece has of a line is put behind
+// Reading lines. The input comes in pieces, each of which a buffer holds; what a piece has of a line is put behind
 // what is read of it so far.
 ghost use Rattle.std.specs.Prelude.{◌≡◌, ◌<◌, length, leb};
 ghost use Rattle.bench_lines.specs.Line.{Kept, line_length, Stretched, Refilled, nothing_read, line_count, piece_size, Advanced};
 
 use crate::count::of_bytes;
+use crate::scan::find;
 use bench_text::put::put;
-use bytes::scan::find;
-use libc::STDIN_FILENO;
+use std::io::Read;
 
 // How many bytes of the piece are taken and how many it has; how many bytes of a line are read, and whether it is whole; whether the input
 // has ended, and whether that is because it could not be read.
@@ -68,13 +68,13 @@ fn without_cr(line: &[u8], count: usize) -> usize
 
 // Reads the next piece. Where there is none the input has ended, and what is read of a line is the whole of it: the last one may end
 // without an LF. Where the read fails nobody knows how the line goes on.
-fn refilled(count: usize, input: &mut [u8]) -> Reader
+fn refilled<R: Read>(source: &mut R, count: usize, input: &mut [u8]) -> Reader
     ensures { Refilled count (length input.old) result }
 {
-    let got = libc::read(STDIN_FILENO, input);
-    let filled = io::count(got, input);
+    let got = source.read(input);
+    let filled = got.unwrap_or(0);
     let ended = filled == 0;
-    let failed = ended & (got < 0);
+    let failed = got.is_err();
     Reader {
         taken: 0,
         filled: filled,
@@ -91,7 +91,7 @@ fn stretch(taken: usize, piece: &[u8], count: usize, line: &mut [u8]) -> Reader
     ensures { Stretched taken count piece.now line.old line.new result }
 {
     let filled = piece.len();
-    let end = find(piece, taken, filled, b'\n');
+    let end = find(piece, taken, b'\n');
     let read = kept(line, count, &piece[taken..end]);
     if end < filled {
         return Reader {
@@ -129,7 +129,12 @@ pub fn will_read(reader: Reader, input: &[u8]) -> bool
 }
 
 // One step on: within the piece where something of it is left, else the next piece is read.
-pub fn advanced(reader: Reader, input: &mut [u8], line: &mut [u8]) -> Reader
+pub fn advanced<R: Read>(
+    source: &mut R,
+    reader: Reader,
+    input: &mut [u8],
+    line: &mut [u8],
+) -> Reader
     ensures { Advanced reader input.old line.old input.new line.new result }
 {
     let count = line_count(reader);
@@ -137,5 +142,5 @@ pub fn advanced(reader: Reader, input: &mut [u8], line: &mut [u8]) -> Reader
     if reader.taken < filled {
         return stretch(reader.taken, &input[..filled], count, line);
     }
-    refilled(count, input)
+    refilled(source, count, input)
 }

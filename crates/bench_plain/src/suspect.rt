@@ -1,5 +1,6 @@
 // The word that is wrong with a line that was not understood, so that it can be found in the script, and what may have been meant.
 use bench_lines::count::of_bytes;
+use bench_lines::scan::find;
 use bench_messages::lines;
 use bench_script::command::LARGEST_BYTE;
 use bench_script::name::Name;
@@ -8,7 +9,6 @@ use bench_words::identifier::identifier;
 use bench_words::number::number;
 use bench_words::reading::{Reading, Trouble};
 use bench_words::split::{Span, between, next_word, same, word, word_at};
-use bytes::scan::find;
 
 // No line has so many words.
 const NONE: usize = 8192;
@@ -213,7 +213,7 @@ pub fn guessed(out: &mut [u8], at: usize, line: &[u8]) -> usize {
     if has_mark(line) {
         return lines::order_mark(out, at);
     }
-    if find(line, 0, line.len(), b'\r') < line.len() {
+    if find(line, 0, b'\r') < line.len() {
         return lines::lone_cr(out, at);
     }
     at

@@ -5,7 +5,7 @@ use bench_lines::reader;
 use bench_lines::reader::{Reader, advanced};
 use bench_script::command::{LARGEST_MEMORY, LARGEST_SHEET};
 use bench_words::bytes::{LONGEST_LINE, MOST_BYTES};
-use libc::STDOUT_FILENO;
+use std::io::Read;
 
 // A line, and the CR before its LF or the byte that makes a line too long.
 const LINE_ROOM: usize = LONGEST_LINE + 1;
@@ -19,22 +19,23 @@ struct Playing {
 }
 
 // Writes what stands in the output buffer.
-fn written(at: usize, out: &[u8]) -> usize {
+fn written(stdout: &impl Print, at: usize, out: &[u8]) -> usize {
     let end = of_bytes(at, out);
-    io::write_all(STDOUT_FILENO, &out[..end]);
+    let _ = stdout.write_all(&out[..end]);
     0
 }
 
 // The same once it is half full: the answer to a line takes less than the other half.
-fn written_if_full(at: usize, out: &[u8]) -> usize {
+fn written_if_full(stdout: &impl Print, at: usize, out: &[u8]) -> usize {
     if at < out.len() / 2 {
         return at;
     }
-    written(at, out)
+    written(stdout, at, out)
 }
 
 // Plays the line that is read, once it is whole.
 fn played(
+    stdout: &impl Print,
     playing: Playing,
     reader: Reader,
     line: &[u8],
@@ -54,14 +55,16 @@ fn played(
     let end = of_bytes(reader.count, line);
     let at = line::play(out, playing.at, number, &line[..end], bytes, memory, sheet);
     Playing {
-        at: written_if_full(at, out),
+        at: written_if_full(stdout, at, out),
         line: number,
         reader: reader,
     }
 }
 
 // One step on in the input, and a case played if that makes a line whole.
-fn step(
+fn step<R: Read>(
+    source: &mut R,
+    stdout: &impl Print,
     playing: Playing,
     input: &mut [u8],
     line: &mut [u8],
@@ -70,12 +73,14 @@ fn step(
     bytes: &mut [u8; MOST_BYTES],
     out: &mut [u8],
 ) -> Playing {
-    let reader = advanced(playing.reader, input, line);
-    played(playing, reader, line, memory, sheet, bytes, out)
+    let reader = advanced(source, playing.reader, input, line);
+    played(stdout, playing, reader, line, memory, sheet, bytes, out)
 }
 
 // Plays the input to its end. Nothing says that an input ends, so the steps are counted down, from more than there can be.
-fn all(
+fn all<R: Read>(
+    source: &mut R,
+    stdout: &impl Print,
     start: Playing,
     input: &mut [u8],
     line: &mut [u8],
@@ -87,7 +92,9 @@ fn all(
     let mut playing = start;
     let mut steps: u64 = 0xFFFFFFFFFFFFFFFF;
     while 0 < steps {
-        playing = step(playing, input, line, memory, sheet, bytes, out);
+        playing = step(
+            source, stdout, playing, input, line, memory, sheet, bytes, out,
+        );
         let reader = playing.reader;
         steps = if reader.ended { 0 } else { steps - 1 };
     }
@@ -104,7 +111,9 @@ fn begun() -> Playing {
 }
 
 // Plays the cases on standard input.
-pub fn play() {
+pub fn play(rt: HostRuntime) {
+    let mut stdin = rt.stdin();
+    let stdout = rt.stdout();
     let mut input = io::large_buffer();
     let mut out = io::large_buffer();
     let mut line = [0u8; LINE_ROOM];
@@ -112,6 +121,8 @@ pub fn play() {
     let mut sheet = [0u32; LARGEST_SHEET];
     let mut bytes = [0u8; MOST_BYTES];
     let end = all(
+        &mut stdin,
+        &stdout,
         begun(),
         &mut input,
         &mut line,
@@ -120,5 +131,5 @@ pub fn play() {
         &mut bytes,
         &mut out,
     );
-    written(end.at, &out);
+    written(&stdout, end.at, &out);
 }

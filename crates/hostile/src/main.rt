@@ -13,6 +13,6 @@ mod print;
 mod same;
 mod state;
 
-fn main() {
-    input::play();
+fn main(rt: HostRuntime) {
+    input::play(rt);
 }

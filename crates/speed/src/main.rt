@@ -6,7 +6,6 @@
 mod round;
 
 use can::State;
-use libc::STDOUT_FILENO;
 use round::Sum;
 use speed_setup::chips;
 
@@ -24,33 +23,32 @@ fn all(state: State, ram: &mut [u8], sheet: &mut [u32], rounds: u32) -> Sum {
 }
 
 // What the rounds came to: calls that were refused, and notifications.
-fn told(name: &[u8], sum: Sum) {
-    io::write_all(STDOUT_FILENO, name);
-    io::print_decimal(STDOUT_FILENO, sum.refused);
-    io::write_all(STDOUT_FILENO, b" refused, ");
-    io::print_decimal(STDOUT_FILENO, sum.notifications);
-    io::write_all(STDOUT_FILENO, b" notifications\n");
+fn told(stdout: &impl Print, name: &str, sum: Sum) {
+    let _ = println!(stdout;
+        "{name}: {} refused, {} notifications",
+        sum.refused, sum.notifications
+    );
 }
 
-fn small(rounds: u32) {
+fn small(stdout: &impl Print, rounds: u32) {
     let mut ram = [0u8; can::RAM_SIZE];
     let mut sheet = [0u32; can::SHEET_SIZE];
     let called = can::init(can::initial_state(), &mut ram, &mut sheet, &chips::SMALL);
     let sum = all(called.state, &mut ram, &mut sheet, rounds);
-    told(b"1 controller, 2 objects: ", sum);
+    told(stdout, "1 controller, 2 objects", sum);
 }
 
-fn full(rounds: u32) {
+fn full(stdout: &impl Print, rounds: u32) {
     let mut ram = [0u8; can::RAM_SIZE];
     let mut sheet = [0u32; can::SHEET_SIZE];
     let bytes = chips::full();
     let called = can::init(can::initial_state(), &mut ram, &mut sheet, &bytes);
     let sum = all(called.state, &mut ram, &mut sheet, rounds);
-    told(b"4 controllers, 32 objects: ", sum);
+    told(stdout, "4 controllers, 32 objects", sum);
 }
 
-fn main() {
-    let rounds = speed_setup::rounds::rounds();
-    small(rounds);
-    full(rounds);
+fn main(rt: HostRuntime) {
+    let rounds = speed_setup::rounds::rounds(&rt);
+    small(&rt, rounds);
+    full(&rt, rounds);
 }

@@ -8,6 +8,6 @@
 mod events;
 mod replayed;
 
-fn main() {
-    replayed::rounds(speed_setup::rounds::rounds());
+fn main(rt: HostRuntime) {
+    replayed::rounds(&rt, speed_setup::rounds::rounds(&rt));
 }

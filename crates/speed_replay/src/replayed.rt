@@ -3,7 +3,6 @@ use crate::events;
 use crate::events::EVENTS;
 use can::State;
 use can_replay::replay::replay;
-use libc::STDOUT_FILENO;
 use speed_setup::chips;
 
 // So many lists, each on what the last one left.
@@ -52,35 +51,31 @@ fn words_sum(words: &[u32]) -> u32 {
 }
 
 // The sums of the memory's bytes and of the sheet's words show that both programs came to the same end.
-fn told(name: &[u8], ram: &[u8], sheet: &[u32]) {
-    let bytes = sum(ram) as u64;
-    let words = words_sum(sheet) as u64;
-    io::write_all(STDOUT_FILENO, name);
-    io::print_decimal(STDOUT_FILENO, bytes);
-    io::write_all(STDOUT_FILENO, b" in memory, ");
-    io::print_decimal(STDOUT_FILENO, words);
-    io::write_all(STDOUT_FILENO, b" on the sheet\n");
+fn told(stdout: &impl Print, name: &str, ram: &[u8], sheet: &[u32]) {
+    let bytes = sum(ram);
+    let words = words_sum(sheet);
+    let _ = println!(stdout; "{name}: {bytes} in memory, {words} on the sheet");
 }
 
-fn small(lists: u32) {
+fn small(stdout: &impl Print, lists: u32) {
     let mut ram = [0u8; can::RAM_SIZE];
     let mut sheet = [0u32; can::SHEET_SIZE];
     let called = can::init(can::initial_state(), &mut ram, &mut sheet, &chips::SMALL);
     all(called.state, &mut ram, &mut sheet, lists);
-    told(b"1 controller, 2 objects: ", &ram, &sheet);
+    told(stdout, "1 controller, 2 objects", &ram, &sheet);
 }
 
-fn full(lists: u32) {
+fn full(stdout: &impl Print, lists: u32) {
     let mut ram = [0u8; can::RAM_SIZE];
     let mut sheet = [0u32; can::SHEET_SIZE];
     let bytes = chips::full();
     let called = can::init(can::initial_state(), &mut ram, &mut sheet, &bytes);
     all(called.state, &mut ram, &mut sheet, lists);
-    told(b"4 controllers, 32 objects: ", &ram, &sheet);
+    told(stdout, "4 controllers, 32 objects", &ram, &sheet);
 }
 
-pub fn rounds(rounds: u32) {
+pub fn rounds(stdout: &impl Print, rounds: u32) {
     let lists = rounds / (events::ROUNDS as u32);
-    small(lists);
-    full(lists);
+    small(stdout, lists);
+    full(stdout, lists);
 }

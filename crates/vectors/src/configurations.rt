@@ -14,35 +14,35 @@ const SENDING: usize = 8;
 pub const RECEIVING: usize = 20;
 
 // Prints what the reader makes of the bytes.
-fn show(name: &[u8], bytes: &[u8]) {
+fn show(stdout: &impl Print, name: &[u8], bytes: &[u8]) {
     let reading = can_config::read::read(bytes);
-    text(name);
+    text(stdout, name);
     if reading.accepted {
-        text(b": accepted, controllers ");
-        number(reading.setup.controller_count as u64);
-        text(b", objects ");
-        number(reading.setup.object_count as u64);
-        text(b"\n");
+        text(stdout, b": accepted, controllers ");
+        number(stdout, reading.setup.controller_count as u64);
+        text(stdout, b", objects ");
+        number(stdout, reading.setup.object_count as u64);
+        text(stdout, b"\n");
     } else {
-        text(b": bad\n");
+        text(stdout, b": bad\n");
     }
 }
 
-fn show_changed(name: &[u8], bytes: &[u8; 32]) {
-    show(name, bytes);
+fn show_changed(stdout: &impl Print, name: &[u8], bytes: &[u8; 32]) {
+    show(stdout, name, bytes);
 }
 
 // K with one byte changed.
-fn changed(name: &[u8], at: usize, value: u8) {
+fn changed(stdout: &impl Print, name: &[u8], at: usize, value: u8) {
     let mut bytes = K;
     if at < 32 {
         bytes[at] = value;
     }
-    show_changed(name, &bytes);
+    show_changed(stdout, name, &bytes);
 }
 
 // K with two bytes changed.
-fn changed_twice(name: &[u8], at: usize, value: u8, at_2: usize, value_2: u8) {
+fn changed_twice(stdout: &impl Print, name: &[u8], at: usize, value: u8, at_2: usize, value_2: u8) {
     let mut bytes = K;
     if at < 32 {
         bytes[at] = value;
@@ -50,51 +50,52 @@ fn changed_twice(name: &[u8], at: usize, value: u8, at_2: usize, value_2: u8) {
     if at_2 < 32 {
         bytes[at_2] = value_2;
     }
-    show_changed(name, &bytes);
+    show_changed(stdout, name, &bytes);
 }
 
-pub fn header() {
-    text(b"configurations: header\n");
-    show(b"K", &K);
-    changed(b"first byte 44", 0, 0x44);
-    changed(b"second byte 49", 1, 0x49);
-    changed(b"third byte 41", 2, 0x41);
-    changed(b"version 01 01", 3, 0x01);
-    changed(b"version 00 00", 4, 0x00);
-    changed(b"version 00 02", 4, 0x02);
-    changed(b"version 00 03", 4, 0x03);
-    changed(b"controllers 0", 5, 0);
-    changed(b"controllers 1", 5, 1);
-    changed(b"controllers 4", 5, 4);
-    changed(b"controllers 5", 5, 5);
-    changed(b"objects 1 in the bytes of 2", 6, 1);
-    changed(b"objects 3 in the bytes of 2", 6, 3);
-    changed(b"last header byte 1", 7, 1);
+pub fn header(stdout: &impl Print) {
+    text(stdout, b"configurations: header\n");
+    show(stdout, b"K", &K);
+    changed(stdout, b"first byte 44", 0, 0x44);
+    changed(stdout, b"second byte 49", 1, 0x49);
+    changed(stdout, b"third byte 41", 2, 0x41);
+    changed(stdout, b"version 01 01", 3, 0x01);
+    changed(stdout, b"version 00 00", 4, 0x00);
+    changed(stdout, b"version 00 02", 4, 0x02);
+    changed(stdout, b"version 00 03", 4, 0x03);
+    changed(stdout, b"controllers 0", 5, 0);
+    changed(stdout, b"controllers 1", 5, 1);
+    changed(stdout, b"controllers 4", 5, 4);
+    changed(stdout, b"controllers 5", 5, 5);
+    changed(stdout, b"objects 1 in the bytes of 2", 6, 1);
+    changed(stdout, b"objects 3 in the bytes of 2", 6, 3);
+    changed(stdout, b"last header byte 1", 7, 1);
 }
 
-pub fn records() {
-    text(b"configurations: records\n");
-    changed(b"sending: controller 1 of 1", SENDING, 1);
-    changed_twice(b"sending: controller 1 of 2", 5, 2, SENDING, 1);
-    changed(b"sending: kind 2", SENDING + 1, 2);
-    changed(b"sending: payload 7", SENDING + 2, 7);
-    changed(b"sending: payload 8", SENDING + 2, 8);
-    changed(b"sending: payload 9", SENDING + 2, 9);
-    changed(b"sending: payload 65", SENDING + 2, 65);
-    changed(b"sending: padding FF", SENDING + 3, 0xFF);
-    changed(b"sending: code 80000000", SENDING + 4, 0x80);
-    changed(b"sending: code 1", SENDING + 7, 0x01);
-    changed(b"sending: mask 80000000", SENDING + 8, 0x80);
-    changed(b"sending: mask 1", SENDING + 11, 0x01);
-    changed(b"receiving: controller 1 of 1", RECEIVING, 1);
-    changed(b"receiving: kind 2", RECEIVING + 1, 2);
-    changed(b"receiving: kind 255", RECEIVING + 1, 255);
-    changed(b"receiving: payload 64", RECEIVING + 2, 64);
-    changed(b"receiving: payload 63", RECEIVING + 2, 63);
-    changed(b"receiving: padding 1", RECEIVING + 3, 1);
-    changed(b"receiving: code bit 30", RECEIVING + 4, 0x40);
-    changed(b"receiving: code bit 29", RECEIVING + 4, 0x20);
+pub fn records(stdout: &impl Print) {
+    text(stdout, b"configurations: records\n");
+    changed(stdout, b"sending: controller 1 of 1", SENDING, 1);
+    changed_twice(stdout, b"sending: controller 1 of 2", 5, 2, SENDING, 1);
+    changed(stdout, b"sending: kind 2", SENDING + 1, 2);
+    changed(stdout, b"sending: payload 7", SENDING + 2, 7);
+    changed(stdout, b"sending: payload 8", SENDING + 2, 8);
+    changed(stdout, b"sending: payload 9", SENDING + 2, 9);
+    changed(stdout, b"sending: payload 65", SENDING + 2, 65);
+    changed(stdout, b"sending: padding FF", SENDING + 3, 0xFF);
+    changed(stdout, b"sending: code 80000000", SENDING + 4, 0x80);
+    changed(stdout, b"sending: code 1", SENDING + 7, 0x01);
+    changed(stdout, b"sending: mask 80000000", SENDING + 8, 0x80);
+    changed(stdout, b"sending: mask 1", SENDING + 11, 0x01);
+    changed(stdout, b"receiving: controller 1 of 1", RECEIVING, 1);
+    changed(stdout, b"receiving: kind 2", RECEIVING + 1, 2);
+    changed(stdout, b"receiving: kind 255", RECEIVING + 1, 255);
+    changed(stdout, b"receiving: payload 64", RECEIVING + 2, 64);
+    changed(stdout, b"receiving: payload 63", RECEIVING + 2, 63);
+    changed(stdout, b"receiving: padding 1", RECEIVING + 3, 1);
+    changed(stdout, b"receiving: code bit 30", RECEIVING + 4, 0x40);
+    changed(stdout, b"receiving: code bit 29", RECEIVING + 4, 0x20);
     changed_twice(
+        stdout,
         b"receiving: code and mask bit 28, standard",
         RECEIVING + 4,
         0x10,
@@ -102,32 +103,75 @@ pub fn records() {
         0x10,
     );
     changed_twice(
+        stdout,
         b"receiving: code and mask bit 11, standard",
         RECEIVING + 6,
         0x09,
         RECEIVING + 10,
         0x0F,
     );
-    changed(b"receiving: code bit 10, standard", RECEIVING + 6, 0x05);
-    changed(b"receiving: code bit 31", RECEIVING + 4, 0x80);
+    changed(
+        stdout,
+        b"receiving: code bit 10, standard",
+        RECEIVING + 6,
+        0x05,
+    );
+    changed(stdout, b"receiving: code bit 31", RECEIVING + 4, 0x80);
     changed_twice(
+        stdout,
         b"receiving: code bits 31 and 28, mask bit 28",
         RECEIVING + 4,
         0x90,
         RECEIVING + 8,
         0x10,
     );
-    changed(b"receiving: code bits 31 and 28", RECEIVING + 4, 0x90);
-    changed(b"receiving: code bits 31 and 30", RECEIVING + 4, 0xC0);
-    changed(b"receiving: code bits 31 and 29", RECEIVING + 4, 0xA0);
-    changed(b"receiving: mask bit 31", RECEIVING + 8, 0x80);
-    changed(b"receiving: mask bit 30", RECEIVING + 8, 0x40);
-    changed(b"receiving: mask bit 29", RECEIVING + 8, 0x20);
-    changed(b"receiving: mask bit 28, standard", RECEIVING + 8, 0x10);
-    changed(b"receiving: mask bit 11, standard", RECEIVING + 10, 0x0F);
-    changed(b"receiving: mask bit 10, standard", RECEIVING + 10, 0x05);
-    changed(b"receiving: mask without code bit 8", RECEIVING + 10, 0x04);
+    changed(
+        stdout,
+        b"receiving: code bits 31 and 28",
+        RECEIVING + 4,
+        0x90,
+    );
+    changed(
+        stdout,
+        b"receiving: code bits 31 and 30",
+        RECEIVING + 4,
+        0xC0,
+    );
+    changed(
+        stdout,
+        b"receiving: code bits 31 and 29",
+        RECEIVING + 4,
+        0xA0,
+    );
+    changed(stdout, b"receiving: mask bit 31", RECEIVING + 8, 0x80);
+    changed(stdout, b"receiving: mask bit 30", RECEIVING + 8, 0x40);
+    changed(stdout, b"receiving: mask bit 29", RECEIVING + 8, 0x20);
+    changed(
+        stdout,
+        b"receiving: mask bit 28, standard",
+        RECEIVING + 8,
+        0x10,
+    );
+    changed(
+        stdout,
+        b"receiving: mask bit 11, standard",
+        RECEIVING + 10,
+        0x0F,
+    );
+    changed(
+        stdout,
+        b"receiving: mask bit 10, standard",
+        RECEIVING + 10,
+        0x05,
+    );
+    changed(
+        stdout,
+        b"receiving: mask without code bit 8",
+        RECEIVING + 10,
+        0x04,
+    );
     changed_twice(
+        stdout,
         b"receiving: mask bit 28, extended",
         RECEIVING + 4,
         0x80,
@@ -135,6 +179,7 @@ pub fn records() {
         0x10,
     );
     changed_twice(
+        stdout,
         b"receiving: mask bit 29, extended",
         RECEIVING + 4,
         0x80,
@@ -161,35 +206,35 @@ fn sending_objects(objects: u8) -> [u8; ROOM] {
     bytes
 }
 
-fn show_first(name: &[u8], bytes: &[u8], length: usize) {
+fn show_first(stdout: &impl Print, name: &[u8], bytes: &[u8], length: usize) {
     if length <= bytes.len() {
-        show(name, &bytes[..length]);
+        show(stdout, name, &bytes[..length]);
     }
 }
 
-fn show_room(name: &[u8], bytes: &[u8; ROOM], length: usize) {
-    show_first(name, bytes, length);
+fn show_room(stdout: &impl Print, name: &[u8], bytes: &[u8; ROOM], length: usize) {
+    show_first(stdout, name, bytes, length);
 }
 
 // So many objects in so many bytes.
-fn many(name: &[u8], objects: u8, length: usize) {
+fn many(stdout: &impl Print, name: &[u8], objects: u8, length: usize) {
     let bytes = sending_objects(objects);
-    show_room(name, &bytes, length);
+    show_room(stdout, name, &bytes, length);
 }
 
-pub fn sizes() {
-    text(b"configurations: sizes\n");
-    show(b"no bytes", &K[..0]);
-    show(b"header only, one byte short", &K[..7]);
-    show(b"K, one byte short", &K[..31]);
-    many(b"objects 0", 0, 8);
-    many(b"objects 0, one byte short", 0, 7);
-    many(b"objects 0, one byte long", 0, 9);
-    many(b"objects 2, one byte long", 2, 33);
-    many(b"objects 32", 32, 392);
-    many(b"objects 32, one byte short", 32, 391);
-    many(b"objects 32, one byte long", 32, 393);
-    many(b"objects 33", 33, 404);
-    many(b"objects 33, one byte short", 33, 403);
-    many(b"objects 33, one byte long", 33, 405);
+pub fn sizes(stdout: &impl Print) {
+    text(stdout, b"configurations: sizes\n");
+    show(stdout, b"no bytes", &K[..0]);
+    show(stdout, b"header only, one byte short", &K[..7]);
+    show(stdout, b"K, one byte short", &K[..31]);
+    many(stdout, b"objects 0", 0, 8);
+    many(stdout, b"objects 0, one byte short", 0, 7);
+    many(stdout, b"objects 0, one byte long", 0, 9);
+    many(stdout, b"objects 2, one byte long", 2, 33);
+    many(stdout, b"objects 32", 32, 392);
+    many(stdout, b"objects 32, one byte short", 32, 391);
+    many(stdout, b"objects 32, one byte long", 32, 393);
+    many(stdout, b"objects 33", 33, 404);
+    many(stdout, b"objects 33, one byte short", 33, 403);
+    many(stdout, b"objects 33, one byte long", 33, 405);
 }

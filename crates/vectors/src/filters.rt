@@ -40,35 +40,35 @@ fn reason_of_state(code: u32, mask: u32) -> u32 {
     can::verdict_reason(can::question_verdict(reply))
 }
 
-fn filter(code: u32, mask: u32) {
-    word(code);
-    text(b" ");
-    word(mask);
-    text(b" ");
-    number(reason_of_init(code, mask) as u64);
-    text(b" ");
-    number(reason_of_state(code, mask) as u64);
-    text(b"\n");
+fn filter(stdout: &impl Print, code: u32, mask: u32) {
+    word(stdout, code);
+    text(stdout, b" ");
+    word(stdout, mask);
+    text(stdout, b" ");
+    number(stdout, reason_of_init(code, mask) as u64);
+    text(stdout, b" ");
+    number(stdout, reason_of_state(code, mask) as u64);
+    text(stdout, b"\n");
 }
 
 // Bits of a code outside its mask: with no mask bit, with all of them, with all but the lowest or the highest.
-pub fn stray_bits() {
-    text(b"code, mask, reason of Init, reason in a state\n");
-    filter(0x0000_0000, 0x0000_0000);
-    filter(0x0000_0001, 0x0000_0000);
-    filter(0x0000_0400, 0x0000_0000);
-    filter(0x0000_0000, 0x0000_07FF);
-    filter(0x0000_07FF, 0x0000_07FF);
-    filter(0x0000_07FF, 0x0000_07FE);
-    filter(0x0000_07FF, 0x0000_03FF);
-    filter(0x0000_0120, 0x0000_07FF);
-    filter(0x0000_0120, 0x0000_07FE);
-    filter(0x0000_0121, 0x0000_07FE);
-    filter(0x8000_0000, 0x0000_0000);
-    filter(0x8000_0001, 0x0000_0000);
-    filter(0x9000_0000, 0x0000_0000);
-    filter(0x8000_0000, 0x1FFF_FFFF);
-    filter(0x9FFF_FFFF, 0x1FFF_FFFF);
-    filter(0x9FFF_FFFF, 0x1FFF_FFFE);
-    filter(0x9FFF_FFFF, 0x0FFF_FFFF);
+pub fn stray_bits(stdout: &impl Print) {
+    text(stdout, b"code, mask, reason of Init, reason in a state\n");
+    filter(stdout, 0x0000_0000, 0x0000_0000);
+    filter(stdout, 0x0000_0001, 0x0000_0000);
+    filter(stdout, 0x0000_0400, 0x0000_0000);
+    filter(stdout, 0x0000_0000, 0x0000_07FF);
+    filter(stdout, 0x0000_07FF, 0x0000_07FF);
+    filter(stdout, 0x0000_07FF, 0x0000_07FE);
+    filter(stdout, 0x0000_07FF, 0x0000_03FF);
+    filter(stdout, 0x0000_0120, 0x0000_07FF);
+    filter(stdout, 0x0000_0120, 0x0000_07FE);
+    filter(stdout, 0x0000_0121, 0x0000_07FE);
+    filter(stdout, 0x8000_0000, 0x0000_0000);
+    filter(stdout, 0x8000_0001, 0x0000_0000);
+    filter(stdout, 0x9000_0000, 0x0000_0000);
+    filter(stdout, 0x8000_0000, 0x1FFF_FFFF);
+    filter(stdout, 0x9FFF_FFFF, 0x1FFF_FFFF);
+    filter(stdout, 0x9FFF_FFFF, 0x1FFF_FFFE);
+    filter(stdout, 0x9FFF_FFFF, 0x0FFF_FFFF);
 }

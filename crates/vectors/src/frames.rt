@@ -3,39 +3,39 @@ use crate::out::{number, text, word};
 use can_frame::identifier::identifier_good;
 use can_frame::length::on_wire;
 
-fn length(n: usize) {
+fn length(stdout: &impl Print, n: usize) {
     let wire = on_wire(n);
-    number(n as u64);
-    text(b" ");
-    number(wire.length as u64);
-    text(b" ");
-    number(wire.dlc as u64);
-    text(b"\n");
+    number(stdout, n as u64);
+    text(stdout, b" ");
+    number(stdout, wire.length as u64);
+    text(stdout, b" ");
+    number(stdout, wire.dlc as u64);
+    text(stdout, b"\n");
 }
 
 // The 65 lengths with their wire lengths and DLC codes.
-pub fn lengths() {
-    text(b"length, wire length, DLC code\n");
+pub fn lengths(stdout: &impl Print) {
+    text(stdout, b"length, wire length, DLC code\n");
     for n in 0usize..65 {
-        length(n);
+        length(stdout, n);
     }
 }
 
-fn identifier(n: u32) {
-    word(n);
+fn identifier(stdout: &impl Print, n: u32) {
+    word(stdout, n);
     if identifier_good(n) {
-        text(b" good\n");
+        text(stdout, b" good\n");
     } else {
-        text(b" not good\n");
+        text(stdout, b" not good\n");
     }
 }
 
 // P13.
-pub fn identifiers() {
-    text(b"identifiers\n");
-    identifier(0x0000_07FF);
-    identifier(0x9FFF_FFFF);
-    identifier(0x0000_0800);
-    identifier(0x2000_0000);
-    identifier(0xA000_0000);
+pub fn identifiers(stdout: &impl Print) {
+    text(stdout, b"identifiers\n");
+    identifier(stdout, 0x0000_07FF);
+    identifier(stdout, 0x9FFF_FFFF);
+    identifier(stdout, 0x0000_0800);
+    identifier(stdout, 0x2000_0000);
+    identifier(stdout, 0xA000_0000);
 }

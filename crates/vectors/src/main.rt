@@ -8,12 +8,12 @@ mod frames;
 mod out;
 mod pools;
 
-fn main() {
-    frames::lengths();
-    frames::identifiers();
-    configurations::header();
-    configurations::records();
-    configurations::sizes();
-    filters::stray_bits();
-    pools::pools();
+fn main(rt: HostRuntime) {
+    frames::lengths(&rt);
+    frames::identifiers(&rt);
+    configurations::header(&rt);
+    configurations::records(&rt);
+    configurations::sizes(&rt);
+    filters::stray_bits(&rt);
+    pools::pools(&rt);
 }

@@ -1,15 +1,13 @@
-// Text on standard output.
-use libc::STDOUT_FILENO;
-
-pub fn text(s: &[u8]) {
-    io::write_all(STDOUT_FILENO, s);
+// Text on standard output. Where it cannot be written there is nobody to tell.
+pub fn text(stdout: &impl Print, s: &[u8]) {
+    let _ = stdout.write_all(s);
 }
 
-pub fn number(n: u64) {
-    io::print_decimal(STDOUT_FILENO, n);
+pub fn number(stdout: &impl Print, n: u64) {
+    let _ = print!(stdout; "{n}");
 }
 
 // Eight hexadecimal digits.
-pub fn word(n: u32) {
-    io::print_hex(STDOUT_FILENO, n as u64, 8);
+pub fn word(stdout: &impl Print, n: u32) {
+    let _ = print!(stdout; "{n:08x}");
 }

@@ -19,32 +19,32 @@ const SECOND: usize = 20;
 const RECEIVING: usize = 32;
 
 // Prints the pool of an object.
-fn show_pool(setup: Setup, h: usize) {
+fn show_pool(stdout: &impl Print, setup: Setup, h: usize) {
     if h < OBJECTS {
-        text(b" ");
-        number(setup.pools[h] as u64);
+        text(stdout, b" ");
+        number(stdout, setup.pools[h] as u64);
     }
 }
 
 // Prints what the reader makes of the bytes: the version, and the pools of the three objects.
-fn show(name: &[u8], bytes: &[u8; 44]) {
+fn show(stdout: &impl Print, name: &[u8], bytes: &[u8; 44]) {
     let reading = can_config::read::read(bytes);
-    text(name);
+    text(stdout, name);
     if reading.accepted {
         let setup = reading.setup;
-        text(b": accepted, version ");
-        number(reading.version as u64);
-        text(b", pools");
-        show_pool(setup, 0);
-        show_pool(setup, 1);
-        show_pool(setup, 2);
-        text(b"\n");
+        text(stdout, b": accepted, version ");
+        number(stdout, reading.version as u64);
+        text(stdout, b", pools");
+        show_pool(stdout, setup, 0);
+        show_pool(stdout, setup, 1);
+        show_pool(stdout, setup, 2);
+        text(stdout, b"\n");
     } else {
-        text(b": bad\n");
+        text(stdout, b": bad\n");
     }
 }
 
-fn changed_twice(name: &[u8], at: usize, value: u8, at_2: usize, value_2: u8) {
+fn changed_twice(stdout: &impl Print, name: &[u8], at: usize, value: u8, at_2: usize, value_2: u8) {
     let mut bytes = POOLED;
     if at < 44 {
         bytes[at] = value;
@@ -52,56 +52,59 @@ fn changed_twice(name: &[u8], at: usize, value: u8, at_2: usize, value_2: u8) {
     if at_2 < 44 {
         bytes[at_2] = value_2;
     }
-    show(name, &bytes);
+    show(stdout, name, &bytes);
 }
 
-fn changed(name: &[u8], at: usize, value: u8) {
-    changed_twice(name, at, value, at, value);
+fn changed(stdout: &impl Print, name: &[u8], at: usize, value: u8) {
+    changed_twice(stdout, name, at, value, at, value);
 }
 
 // The same objects in version 1, where each is its own pool.
-fn version_1() {
+fn version_1(stdout: &impl Print) {
     let mut bytes = POOLED;
     bytes[4] = 1;
     bytes[FIRST + 7] = 0;
     bytes[SECOND + 7] = 0;
-    show(b"version 00 01, no pool said", &bytes);
+    show(stdout, b"version 00 01, no pool said", &bytes);
 }
 
-pub fn pools() {
-    text(b"configurations: pools\n");
-    changed(b"pool 5 twice", 0, 0x43);
-    changed(b"version 00 01", 4, 1);
-    changed(b"version 00 00", 4, 0);
-    changed(b"version 00 03", 4, 3);
-    changed(b"version 01 02", 3, 1);
-    changed_twice(b"version 00 01, one pool said", 4, 1, FIRST + 7, 0);
-    version_1();
-    changed(b"pool 0", FIRST + 7, 0);
-    changed(b"pool 31", FIRST + 7, 31);
-    changed(b"pool 32", FIRST + 7, 32);
-    changed(b"pool 255", FIRST + 7, 255);
-    changed(b"code 100 beside the pool", FIRST + 6, 1);
-    changed(b"code 80000000 beside the pool", FIRST + 4, 0x80);
-    changed(b"mask 1", FIRST + 11, 1);
-    changed(b"controllers disagree", SECOND, 1);
+pub fn pools(stdout: &impl Print) {
+    text(stdout, b"configurations: pools\n");
+    changed(stdout, b"pool 5 twice", 0, 0x43);
+    changed(stdout, b"version 00 01", 4, 1);
+    changed(stdout, b"version 00 00", 4, 0);
+    changed(stdout, b"version 00 03", 4, 3);
+    changed(stdout, b"version 01 02", 3, 1);
+    changed_twice(stdout, b"version 00 01, one pool said", 4, 1, FIRST + 7, 0);
+    version_1(stdout);
+    changed(stdout, b"pool 0", FIRST + 7, 0);
+    changed(stdout, b"pool 31", FIRST + 7, 31);
+    changed(stdout, b"pool 32", FIRST + 7, 32);
+    changed(stdout, b"pool 255", FIRST + 7, 255);
+    changed(stdout, b"code 100 beside the pool", FIRST + 6, 1);
+    changed(stdout, b"code 80000000 beside the pool", FIRST + 4, 0x80);
+    changed(stdout, b"mask 1", FIRST + 11, 1);
+    changed(stdout, b"controllers disagree", SECOND, 1);
     changed_twice(
+        stdout,
         b"another controller, another pool",
         SECOND,
         1,
         SECOND + 7,
         6,
     );
-    changed(b"payloads disagree", SECOND + 2, 8);
+    changed(stdout, b"payloads disagree", SECOND + 2, 8);
     changed_twice(
+        stdout,
         b"another payload, another pool",
         SECOND + 2,
         8,
         SECOND + 7,
         6,
     );
-    changed(b"paddings disagree", SECOND + 3, 0xCD);
+    changed(stdout, b"paddings disagree", SECOND + 3, 0xCD);
     changed_twice(
+        stdout,
         b"another padding, another pool",
         SECOND + 3,
         0xCD,
@@ -109,6 +112,7 @@ pub fn pools() {
         6,
     );
     changed(
+        stdout,
         b"the last byte of a receiving object's code",
         RECEIVING + 7,
         0x21,
