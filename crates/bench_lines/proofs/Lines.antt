@@ -2,15 +2,14 @@
 use Prim.Native.Nat.{ℕ, ◌+◌, ◌-◌, ◌≤◌, ◌<◌}
 use native.Mathlib.Omega.{arith}
 use Prim.{⊥}
-use mathlib.Core.Path.{◌≡◌, refl, sym, ap, ◌∙◌}
+use mathlib.Core.Path.{◌≡◌, refl, sym, ap}
 use mathlib.Core.Bool.{true, false}
 use mathlib.Core.List.{List}
 use lib.ListN.{length, get_or, take, drop, length-drop, get_or-eq_default}
-use lib.Seq.{length-take-le, take-length, take_all}
+use lib.Seq.{length-take-le, take_all}
 use borrow.Author.Tests.{lt-ltb, le-ltb, le-leb, lt-leb, ne_eqb}
-use Rattle.bytes.specs.Bytes.{slice, index_of}
 use Rattle.bench_text.specs.Put.{Put, fitting}
-use Rattle.bench_lines.specs.Line.{LF, CR, TOO_LONG, has_room, Kept, line_length, line_part, line_ends, Stretched, Refilled, line_count, piece_size, Advanced}
+use Rattle.bench_lines.specs.Line.{LF, CR, index_of, TOO_LONG, has_room, Kept, line_length, line_part, line_ends, Stretched, Refilled, line_count, piece_size, Advanced}
 use Rattle.bench_lines.specs.declared.reader.Reader.{Reader}
 
 module _ (count : ℕ) (more before : List ℕ) where
@@ -41,23 +40,19 @@ module _ (line : List ℕ) (count : ℕ) where
   without_cr h e = rw (lt-ltb 0 count h, ne_eqb (get_or line (count - 1) 0) CR e)
 
 -- What `find` found in a piece of which so many bytes are taken: where the line's part of the rest ends.
-module _ (taken : ℕ) (piece : List ℕ) (end : ℕ) (found : end ≡ taken + index_of LF (slice taken (length piece) piece)) (left : taken < length piece) (within : end ≤ length piece) where
+module _ (taken : ℕ) (piece : List ℕ) (end : ℕ) (found : end ≡ taken + index_of LF (drop taken piece)) (left : taken < length piece) (within : end ≤ length piece) where
   abbrev rest : List ℕ
   rest = drop taken piece
 
-  index : end ≡ taken + index_of LF rest
-  unfolding slice
-  index = found ∙ ap (λ (l : List ℕ). taken + index_of LF (drop taken l)) (take-length piece)
-
   part_is : take (end - taken) rest ≡ line_part rest
   part_is =
-      let same : end - taken ≡ index_of LF rest = omega (arith, index) in
+      let same : end - taken ≡ index_of LF rest = omega (arith, found) in
       ap (λ (n : ℕ). take n rest) same
 
   part_end : taken + length (line_part rest) ≡ end
   part_end =
-      let short : index_of LF rest ≤ length rest = omega (arith, index, length-drop taken piece) in
-      omega (arith, length-take-le (index_of LF rest) rest short, index)
+      let short : index_of LF rest ≤ length rest = omega (arith, found, length-drop taken piece) in
+      omega (arith, length-take-le (index_of LF rest) rest short, found)
 
   module _ (count : ℕ) (before after : List ℕ) (read : ℕ) (put : Kept count (take (end - taken) rest) before after read) where
     part_kept : Kept count (line_part rest) before after read
@@ -66,12 +61,12 @@ module _ (taken : ℕ) (piece : List ℕ) (end : ℕ) (found : end ≡ taken + i
     pub with_its_end : {r : ℕ} → end < length piece → r ≡ line_length after read
         → Stretched taken count piece before after (record { taken = end + 1; filled = length piece; count = r; whole = true; ended = false; failed = false })
     with_its_end h e =
-        let ends : line_ends rest ≡ true = lt-ltb (index_of LF rest) (length rest) (omega (arith, index, length-drop taken piece)) in
+        let ends : line_ends rest ≡ true = lt-ltb (index_of LF rest) (length rest) (omega (arith, found, length-drop taken piece)) in
         record { read = read; part_kept = part_kept; reader_is = rw (ends, part_end, e) }
 
     pub without_its_end : length piece ≤ end → Stretched taken count piece before after (record { taken = length piece; filled = length piece; count = read; whole = false; ended = false; failed = false })
     without_its_end h =
-        let ends : line_ends rest ≡ false = le-ltb (index_of LF rest) (length rest) (omega (arith, index, length-drop taken piece)) in
+        let ends : line_ends rest ≡ false = le-ltb (index_of LF rest) (length rest) (omega (arith, found, length-drop taken piece)) in
         record { read = read; part_kept = part_kept; reader_is = rw ends }
 
 -- A step by what the code found: how much of the line is read, and how much the piece has.

@@ -1,0 +1,8 @@
+-- `bench_lines::reader::refilled` meets its contract: what a read answers is a count of the buffer's bytes, or a failure with none.
+use native.Mathlib.Omega.{arith}
+use Rattle.std.proofs.Common.{refl}
+use Rattle.std.proofs.lemmas.Grind.{common_steps}
+use Rattle.bench_lines.proofs.reader.refilled.Goals as goal
+
+pub returns : goal.returns
+returns g c = record { within = grind (arith, common_steps); failed_empty = grind (arith, common_steps); reader_is = refl }
