@@ -1,15 +1,19 @@
 -- Bytes that are put behind a line or have no room there, the line end's CR, and one step of reading.
 use Prim.Native.Nat.{ℕ, ◌+◌, ◌-◌, ◌≤◌, ◌<◌}
 use native.Mathlib.Omega.{arith}
-use Prim.{⊥}
-use mathlib.Core.Path.{◌≡◌, refl, sym, ap}
-use mathlib.Core.Bool.{true, false}
-use mathlib.Core.List.{List}
+use Prim.{⊥, tt}
+use mathlib.Core.Path.{◌≡◌, refl, sym, ap, ◌∙◌}
+use mathlib.Core.Bool.{true, false, true≢false}
+use mathlib.Core.List.{List, []}
 use lib.ListN.{length, get_or, take, drop, length-drop, get_or-eq_default}
 use lib.Seq.{length-take-le, take_all}
-use borrow.Author.Tests.{lt-ltb, le-ltb, le-leb, lt-leb, ne_eqb}
+use lib.Dec.{eqb}
+use borrow.Author.Tests.{eqb-true, lt-ltb, le-ltb, le-leb, lt-leb, ne_eqb}
+use Rattle.std.specs.Prelude.{Option, Some, None, Result, Ok, Err, is_err}
+use Rattle.std.specs.Result.{result_unwrap_or}
+use Rattle.std.specs.Io.KnownBytes.{Keeps, Consumes, ReadConsumes}
 use Rattle.bench_text.specs.Put.{Put, fitting}
-use Rattle.bench_lines.specs.Line.{LF, CR, index_of, TOO_LONG, has_room, Kept, line_length, line_part, line_ends, Stretched, Refilled, line_count, piece_size, Advanced}
+use Rattle.bench_lines.specs.Line.{LF, CR, index_of, TOO_LONG, has_room, Kept, line_length, line_part, line_ends, Stretched, Refilled, Drawn, line_count, piece_size, Advanced, DrawnByStep}
 use Rattle.bench_lines.specs.declared.reader.Reader.{Reader}
 
 module _ (count : ℕ) (more before : List ℕ) where
@@ -85,3 +89,27 @@ module _ (reader : Reader) (input line : List ℕ) (r : Reader) (count filled : 
         in_the_piece = λ l. absurd (let no : ⊥ = omega arith in no);
         behind_the_piece = λ l. (rw (sym count_is) s, refl);
       }
+
+-- A read that fails takes nothing from its source.
+kept_is_nothing_taken : (before after : Option (List ℕ)) → Keeps before after → Consumes before after []
+kept_is_nothing_taken None after k = tt
+kept_is_nothing_taken (Some xs) None k = k
+kept_is_nothing_taken (Some xs) (Some ys) k = sym k
+
+-- What a read answered tells how many bytes the new piece has, and whether it failed.
+pub drawn : {E : Type 0} (got : Result ℕ E) {before after : Option (List ℕ)} {input : List ℕ} (r : Reader) → ReadConsumes before after got input
+    → r.filled ≡ result_unwrap_or got 0 → r.failed ≡ is_err got → r.ended ≡ eqb r.filled 0 → Drawn before after input r
+drawn (Ok n) {before = before} {after = after} {input = input} r h filled failed ended =
+    record {
+      taken = rw filled h.0;
+      at_the_end = λ e f l. h.1 (sym filled ∙ eqb-true r.filled 0 (sym ended ∙ e)) l;
+    }
+drawn (Err x) {before = before} {after = after} {input = input} r h filled failed ended =
+    record { taken = rw filled (kept_is_nothing_taken before after h); at_the_end = λ e f. absurd (true≢false (sym failed ∙ f)) }
+
+module _ (reader : Reader) (input input_after : List ℕ) (before after : Option (List ℕ)) (r : Reader) (filled : ℕ) (Filled_is : filled ≡ piece_size reader input) where
+  pub drawn_within : reader.taken < filled → after ≡ before → DrawnByStep reader input input_after before after r
+  drawn_within h e = record { in_the_piece = λ l. e; behind_the_piece = λ l. absurd (let no : ⊥ = omega arith in no) }
+
+  pub drawn_behind : filled ≤ reader.taken → Drawn before after input_after r → DrawnByStep reader input input_after before after r
+  drawn_behind h d = record { in_the_piece = λ l. absurd (let no : ⊥ = omega arith in no); behind_the_piece = λ l. d }

@@ -1,6 +1,7 @@
 -- Lines of the input. docs/BENCH.md: a line ends with LF or CR LF, and the last one may end without.
-use Rattle.std.specs.Prelude.{ℕ, ◌+◌, ◌-◌, ◌≤◌, ◌<◌, min, ◌≡◌, Bool, true, false, not, cond, ◌&&◌, List, length, get_or, take, drop, eqb, ltb, leb}
+use Rattle.std.specs.Prelude.{ℕ, Option, ◌+◌, ◌-◌, ◌≤◌, ◌<◌, min, ◌≡◌, Bool, true, false, not, cond, ◌&&◌, List, length, get_or, take, drop, eqb, ltb, leb}
 use Rattle.std.specs.List.{position_or_len}
+use Rattle.std.specs.Io.KnownBytes.{Consumes, IsAtEnd}
 use Rattle.rules.specs.Bytes.{splice}
 use Rattle.bench_lines.specs.declared.reader.Reader.{Reader}
 
@@ -59,6 +60,12 @@ pub record Refilled (count size : ℕ) (r : Reader) : Type 0 where
   pub reader_is :
       r ≡ record { taken = 0; filled = r.filled; count = count; whole = eqb r.filled 0 && ltb 0 count && not r.failed; ended = eqb r.filled 0; failed = r.failed }
 
+-- What a new piece takes of the bytes that its source has left, where they are known: those that the piece has. Where it has none, though the
+-- buffer has room and nothing failed, none are left.
+pub record Drawn (before after : Option (List ℕ)) (input : List ℕ) (r : Reader) : Type 0 where
+  pub taken : Consumes before after (take r.filled input)
+  pub at_the_end : r.ended ≡ true → r.failed ≡ false → 0 < length input → IsAtEnd after
+
 -- nothing is read yet
 abbrev pub nothing_read : Reader
 nothing_read = record { taken = 0; filled = 0; count = 0; whole = false; ended = false; failed = false }
@@ -76,3 +83,8 @@ pub record Advanced (reader : Reader) (input line input_after line_after : List 
   pub in_the_piece : reader.taken < piece_size reader input
       → Stretched reader.taken (line_count reader) (take (piece_size reader input) input) line line_after r × (input_after ≡ input)
   pub behind_the_piece : piece_size reader input ≤ reader.taken → Refilled (line_count reader) (length input) r × (line_after ≡ line)
+
+-- what the same step takes of its source: within the piece nothing
+pub record DrawnByStep (reader : Reader) (input input_after : List ℕ) (before after : Option (List ℕ)) (r : Reader) : Type 0 where
+  pub in_the_piece : reader.taken < piece_size reader input → after ≡ before
+  pub behind_the_piece : piece_size reader input ≤ reader.taken → Drawn before after input_after r

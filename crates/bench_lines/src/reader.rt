@@ -1,7 +1,7 @@
 // Reading lines. The input comes in pieces, each of which a buffer holds; what a piece has of a line is put behind
 // what is read of it so far.
 ghost use Rattle.std.specs.Prelude.{◌≡◌, ◌<◌, length, leb};
-ghost use Rattle.bench_lines.specs.Line.{Kept, line_length, Stretched, Refilled, nothing_read, line_count, piece_size, Advanced};
+ghost use Rattle.bench_lines.specs.Line.{Kept, line_length, Stretched, Refilled, Drawn, nothing_read, line_count, piece_size, Advanced, DrawnByStep};
 
 use crate::count::of_bytes;
 use crate::scan::find;
@@ -69,7 +69,8 @@ fn without_cr(line: &[u8], count: usize) -> usize
 // Reads the next piece. Where there is none the input has ended, and what is read of a line is the whole of it: the last one may end
 // without an LF. Where the read fails nobody knows how the line goes on.
 fn refilled<R: Read>(source: &mut R, count: usize, input: &mut [u8]) -> Reader
-    ensures { Refilled count (length input.old) result }
+    ensures piece { Refilled count (length input.old) result }
+    ensures drawn { Drawn (R.remaining source.old) (R.remaining source.new) input.new result }
 {
     let got = source.read(input);
     let filled = got.unwrap_or(0);
@@ -135,7 +136,8 @@ pub fn advanced<R: Read>(
     input: &mut [u8],
     line: &mut [u8],
 ) -> Reader
-    ensures { Advanced reader input.old line.old input.new line.new result }
+    ensures step { Advanced reader input.old line.old input.new line.new result }
+    ensures drawn { DrawnByStep reader input.old input.new (R.remaining source.old) (R.remaining source.new) result }
 {
     let count = line_count(reader);
     let filled = of_bytes(reader.filled, input);
