@@ -12,7 +12,6 @@ use Rattle.can_state.specs.View.{view}
 use Rattle.can_state.specs.Sizes.{Sized}
 use Rattle.can_state.proofs.Sizes.{sizes}
 use Rattle.can_state.proofs.Gates.{state_gate_is, state_passed, lifted_performed}
-use borrow.Author.Rules.{rules}
 use Rattle.can_events.proofs.bus_off_detected.bus_off_detected.Goals as goal
 
 pub bus_off_detected-verdict-requires : goal.bus_off_detected-verdict-requires

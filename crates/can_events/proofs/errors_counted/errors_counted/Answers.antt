@@ -14,7 +14,6 @@ use Rattle.can_state.specs.View.{view}
 use Rattle.can_state.specs.Sizes.{Sized}
 use Rattle.can_state.proofs.Sizes.{sizes}
 use Rattle.can_state.proofs.Gates.{sheet_gate_is, sheet_passed, sheet_room, lifted_performed}
-use borrow.Author.Rules.{rules}
 use Rattle.can_events.proofs.errors_counted.errors_counted.Goals as goal
 
 pub slice_bounds-errors_counted-end : goal.slice_bounds-errors_counted-end

@@ -13,7 +13,6 @@ use Rattle.can_state.specs.Sizes.{Sized}
 use Rattle.can_state.proofs.Sizes.{sizes}
 use Rattle.core_places.proofs.Laws.{owned_in}
 use Rattle.can_state.proofs.Gates.{state_gate_is, state_passed, lifted_performed}
-use borrow.Author.Rules.{rules}
 use Rattle.can_events.proofs.tx_complete.tx_complete.Goals as goal
 
 pub slice_bounds-tx_complete-end-8 : goal.slice_bounds-tx_complete-end-8
