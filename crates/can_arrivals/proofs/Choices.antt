@@ -1,17 +1,16 @@
 -- The choice of an arrival's object: one object compared, and a pass over all of them.
-use Prim.Native.Nat.{ℕ, zero, suc, ◌+◌, ◌≤◌, ◌<◌}
-use mathlib.Core.Path.{◌≡◌, refl, ap, sym, ◌∙◌}
+use Prim.Native.Nat.{ℕ, ◌+◌, ◌≤◌, ◌<◌}
+use mathlib.Core.Path.{◌≡◌, refl, ap, ◌∙◌}
 use mathlib.Core.Bool.{Bool, beq, true, false, ◌&&◌, and-true, and-false}
 use mathlib.Core.List.{List}
 use native.Mathlib.Omega.{arith}
 use lib.ListN.{length, get_or}
 use Rattle.rules.specs.Repeat.{best_below}
-use Rattle.rules.specs.Core.{Owner, owner_at, mailbox_at}
+use Rattle.rules.specs.Core.{owner_at, mailbox_at}
 use Rattle.rules.specs.Configuration.{settings_at}
 use Rattle.rules.specs.State.{State}
 use Rattle.rules.specs.Events.{fits_frame, best_object}
-use Rattle.rules.specs.Can.{Frame, can_format, filter_accepts}
-use Rattle.core_events.specs.declared.pick.Pick.{Pick}
+use Rattle.rules.specs.Can.{can_format, filter_accepts}
 use Rattle.core_events.specs.declared.pick.Pick.TheVariants.{Nobody}
 use Rattle.core_events.specs.Pick.{view_pick, better_pick}
 use Rattle.core_events.proofs.Picks.{picked, picked_seen, again}

@@ -9,7 +9,6 @@ use Rattle.rules.specs.Can.{Frame, can_format}
 use Rattle.rules.specs.Chip.{chip}
 use Rattle.core_places.specs.Arrays.{mailboxes_in}
 use Rattle.core_places.specs.Held.{Owned}
-use Rattle.core_events.specs.declared.pick.Pick.{Pick}
 use Rattle.core_events.specs.Pick.{view_pick, better_pick}
 use Rattle.can_arrivals.specs.declared.choice.Choice.{Choice}
 

@@ -1,12 +1,9 @@
-use Prim.Native.Nat.{◌-◌}
 use mathlib.Core.Bool.{false, ◌&&◌}
-use mathlib.Core.Logic.{⊎_elim}
 use native.Mathlib.Omega.{arith}
 use lib.Dec.{eqb}
 use lib.ListN.{get_or}
 use Rattle.rules.specs.Can.{filter_accepts}
-use borrow.Author.Rules.{rules}
-use Rattle.can_arrivals.proofs.Choices.{compared_own, compared_not, Choosing, choice_begins, choice_goes_on, choice_ends}
+use Rattle.can_arrivals.proofs.Choices.{compared_own, compared_not, choice_begins, choice_goes_on, choice_ends}
 use Rattle.can_arrivals.proofs.choice.choose.Goals as goal
 use Rattle.can_arrivals.proofs.choice.choose.Goals.{then-own, else-own}
 

@@ -2,7 +2,6 @@
 use mathlib.Core.Path.{refl, ◌∙◌}
 use Rattle.rules.specs.Can.{filter_accepts}
 use Rattle.can_arrivals.proofs.Choices.{compared_full, compared_empty}
-use borrow.Author.Rules.{rules}
 use Rattle.can_arrivals.proofs.choice.compare.Goals as goal
 
 pub returns-then-full : goal.returns-then-full

@@ -8,7 +8,6 @@ use Rattle.can_state.proofs.Sizes.{sizes}
 use Rattle.can_state.proofs.Gates.{full_gate_is, passed}
 use Rattle.core_places.proofs.Laws.{owned_in}
 use Rattle.can_arrivals.proofs.Arrivals.{state_received}
-use borrow.Author.Rules.{rules}
 use Rattle.can_arrivals.proofs.frame_arrived.frame_arrived.Goals as goal
 
 pub slice_bounds-arrive_lent-end-4 : goal.slice_bounds-arrive_lent-end-4

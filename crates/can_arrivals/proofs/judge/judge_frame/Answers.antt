@@ -1,5 +1,4 @@
 -- `can_arrivals::judge::judge_frame` meets its contract: the tests on the way to each return pick the first reason that applies.
-use borrow.Author.Rules.{rules}
 use Rattle.rules.specs.Reason.{first_reason}
 use Rattle.can_arrivals.proofs.judge.judge_frame.Goals as goal
 

@@ -17,7 +17,6 @@ use Rattle.core_places.specs.Arrays.{controllers_in}
 use Rattle.core_places.specs.Held.{Controlled}
 use Rattle.core_events.proofs.Laws.{on_bus_read}
 use Rattle.can_layout.proofs.Lawful.{short_enough}
-use borrow.Author.Rules.{rules}
 use Rattle.can_arrivals.proofs.lent.arrive_lent.Goals as goal
 
 pub received-requires : goal.received-requires

@@ -4,7 +4,6 @@ use Rattle.rules.specs.Reason.{return_code}
 use Rattle.rules.specs.Notification.{data_lost}
 use Rattle.laws.proofs.Sheets.{sheet_none}
 use Rattle.core_layout.proofs.Placed.{put_first}
-use borrow.Author.Rules.{rules}
 use Rattle.can_arrivals.proofs.received.not_stored.Goals as goal
 
 pub returns-in-Nobody : goal.returns-in-Nobody

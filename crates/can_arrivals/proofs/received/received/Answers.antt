@@ -7,7 +7,6 @@ use Rattle.core_events.specs.declared.pick.Pick.TheVariants.{Object}
 use Rattle.core_events.specs.Pick.{view_pick}
 use Rattle.core_places.proofs.Laws.{owned_in}
 use Rattle.can_arrivals.proofs.Arrivals.{some_state, state_received, chosen_in_use}
-use borrow.Author.Rules.{rules}
 use Rattle.can_arrivals.proofs.received.received.Goals as goal
 
 pub bounds-paddings-h : goal.bounds-paddings-h

@@ -6,7 +6,6 @@ use Rattle.rules.specs.Configuration.{settings_at}
 use Rattle.rules.specs.Can.{Frame, can_format}
 use Rattle.laws.proofs.Sheets.{sheet_none}
 use Rattle.can_layout.proofs.Placed.{object_room, laid_whole}
-use borrow.Author.Rules.{rules}
 use Rattle.can_arrivals.proofs.received.store.Goals as goal
 
 pub returns : goal.returns
