@@ -1,7 +1,7 @@
 -- What the last arm of a match knows: its function is none of those that earlier arms took, so that it is the one of its kind that is left, or
 -- of the kind that is left.
 use Prim.Native.Nat.{ℕ}
-use mathlib.Core.Path.{◌≡◌, refl, ap}
+use mathlib.Core.Path.{◌≡◌, refl}
 use mathlib.Core.Logic.{◌⊎◌, inl, inr}
 use native.Mathlib.Omega.{arith}
 use Rattle.can_calls.specs.Request.{kind, SERVICE, POLL, EVENT}

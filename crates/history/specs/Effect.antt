@@ -57,19 +57,19 @@ module _ (F : Format) where
   written_to (sends_next o) x = nothing
 
   abbrev pub accepted_effect : Call F → Answer → Effect F
-  accepted_effect (Init sheet bytes) answer = configuring (configured bytes)
-  accepted_effect (DeInit sheet) answer = configuring unconfigured
-  accepted_effect (SetControllerMode sheet c asked) answer = at_controller c (mode_asked asked)
-  accepted_effect (AskController q sheet c) answer = at_controller c (question_asked q)
-  accepted_effect (Write sheet h handle fits frame) answer = written_to answer (written handle frame)
-  accepted_effect (MainFunctionWrite sheet) answer = polling of_writes
-  accepted_effect (MainFunctionRead sheet) answer = nothing
-  accepted_effect (MainFunctionMode sheet) answer = polling of_modes
-  accepted_effect (MainFunctionBusOff sheet) answer = polling of_buses_off
-  accepted_effect (TxComplete h) answer = at_object h completed
-  accepted_effect (BusOffDetected c) answer = at_controller c bus_off
-  accepted_effect (ErrorsCounted sheet c tx rx) answer = at_controller c (counted tx rx)
-  accepted_effect (FrameArrived sheet c frame) answer = nothing
+  accepted_effect (Init sheet bytes) _ = configuring (configured bytes)
+  accepted_effect (DeInit sheet) _ = configuring unconfigured
+  accepted_effect (SetControllerMode sheet c asked) _ = at_controller c (mode_asked asked)
+  accepted_effect (AskController q sheet c) _ = at_controller c (question_asked q)
+  accepted_effect (Write sheet h handle fits frame) a = written_to a (written handle frame)
+  accepted_effect (MainFunctionWrite sheet) _ = polling of_writes
+  accepted_effect (MainFunctionRead sheet) _ = nothing
+  accepted_effect (MainFunctionMode sheet) _ = polling of_modes
+  accepted_effect (MainFunctionBusOff sheet) _ = polling of_buses_off
+  accepted_effect (TxComplete h) _ = at_object h completed
+  accepted_effect (BusOffDetected c) _ = at_controller c bus_off
+  accepted_effect (ErrorsCounted sheet c tx rx) _ = at_controller c (counted tx rx)
+  accepted_effect (FrameArrived sheet c frame) _ = nothing
 
   -- "Accepted means that the call's return code is 0"
   abbrev pub effect : Call F → Outcome (State F) → Effect F

@@ -1,9 +1,6 @@
-use Prim.Native.Nat.{◌-◌}
 use mathlib.Core.Path.{sym, ◌∙◌}
-use mathlib.Core.Logic.{⊎_elim}
 use native.Mathlib.Omega.{arith}
-use borrow.Author.Rules.{rules}
-use Rattle.can_arbitration.proofs.Choices.{Choosing, choice_begins, choice_goes_on, choice_ends}
+use Rattle.can_arbitration.proofs.Choices.{choice_begins, choice_goes_on, choice_ends}
 use Rattle.can_arbitration.proofs.choice.choose.Goals as goal
 use Rattle.can_arbitration.proofs.choice.choose.Goals.{then-competes, else-competes}
 

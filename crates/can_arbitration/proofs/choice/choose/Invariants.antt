@@ -1,10 +1,6 @@
 -- The loop's invariant: the objects below h are compared.
 use Prim.Native.Nat.{◌-◌}
-use mathlib.Core.Path.{sym, ◌∙◌}
-use mathlib.Core.Logic.{⊎_elim}
-use native.Mathlib.Omega.{arith}
-use borrow.Author.Rules.{rules}
-use Rattle.can_arbitration.proofs.Choices.{Choosing, choice_begins, choice_goes_on, choice_ends}
+use Rattle.can_arbitration.proofs.Choices.{Choosing}
 use Rattle.can_arbitration.proofs.choice.choose.Given as goal
 
 abbrev pub invariant-loop-h : goal.invariant-loop-h

@@ -1,6 +1,5 @@
 -- The identifier is the one in the object's bytes.
 use mathlib.Core.Path.{◌∙◌}
-use borrow.Author.Rules.{rules}
 use Rattle.can_arbitration.proofs.choice.rank_at.Goals as goal
 
 pub returns : goal.returns

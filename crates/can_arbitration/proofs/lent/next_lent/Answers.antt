@@ -3,7 +3,6 @@ use mathlib.Core.Path.{◌≡◌, refl, sym, ap, ◌∙◌}
 use mathlib.Core.List.{[]}
 use native.Mathlib.Omega.{arith}
 use lib.Dec.{ltb}
-use borrow.Author.Rules.{rules}
 use Rattle.rules.specs.Reason.{first_reason, ◌then◌}
 use Rattle.rules.specs.Core.{Core}
 use Rattle.rules.specs.Outcome.{sends_next, no_answer, no_report}

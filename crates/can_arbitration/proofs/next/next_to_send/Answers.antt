@@ -14,7 +14,6 @@ use Rattle.can_state.specs.Sizes.{Sized}
 use Rattle.can_state.proofs.Sizes.{sizes}
 use Rattle.can_state.proofs.Gates.{ram_gate_is, ram_passed, lifted_performed}
 use Rattle.can_arbitration.specs.Lent.{Contending}
-use borrow.Author.Rules.{rules}
 use Rattle.can_arbitration.proofs.next.next_to_send.Goals as goal
 
 -- the arrays of a state are those of its core

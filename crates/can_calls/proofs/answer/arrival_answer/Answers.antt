@@ -1,5 +1,4 @@
 -- `can_calls::answer::arrival_answer` meets its contract: each case of the reply has its answer.
-use borrow.Author.Rules.{rules}
 use Rattle.can_calls.proofs.answer.arrival_answer.Goals as goal
 
 pub returns-in-Stored : goal.returns-in-Stored

@@ -1,5 +1,4 @@
 -- `can_calls::answer::question_answer` meets its contract: each question has its answer, with the number in the reply.
-use borrow.Author.Rules.{rules}
 use Rattle.can_calls.proofs.Laws.{question_told}
 use Rattle.can_calls.proofs.answer.question_answer.Goals as goal
 

@@ -1,5 +1,4 @@
 -- `can_calls::perform::ask` meets its contract: the service is the one of the question.
-use borrow.Author.Rules.{rules}
 use Rattle.can_calls.proofs.perform.ask.Goals as goal
 
 pub returns-in-Mode : goal.returns-in-Mode

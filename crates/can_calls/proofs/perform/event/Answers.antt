@@ -1,11 +1,8 @@
 -- `can_calls::perform::event` meets its contract: the event is the one that the request names. Those that take no memory, and those that take
 -- neither memory nor sheet, leave what they do not take as it is.
-use borrow.Author.Rules.{rules}
-use mathlib.Core.Path.{refl}
-use mathlib.Core.List.{[], ◌∷◌}
 use lib.ListN.{length}
 use Rattle.can_state.specs.View.{view}
-use Rattle.can_calls.specs.Request.{EVENT, outcome_of}
+use Rattle.can_calls.specs.Request.{outcome_of}
 use Rattle.can_calls.proofs.Laws.{told, sent_keeps, bus_off_keeps, counted_keeps}
 use Rattle.can_calls.proofs.Arms.{last_event}
 use Rattle.can_calls.proofs.perform.event.Goals as goal

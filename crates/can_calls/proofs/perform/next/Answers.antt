@@ -1,5 +1,4 @@
 -- `can_calls::perform::next` meets its contract: the reply is told as its verdict and its answer.
-use borrow.Author.Rules.{rules}
 use Rattle.can_calls.proofs.Laws.{replied}
 use Rattle.can_calls.proofs.perform.next.Goals as goal
 

@@ -1,10 +1,8 @@
 -- `can_calls::perform::perform` meets its contract: a request of each kind goes to the function of that kind. Who sends next leaves any sheet as
 -- it is.
-use borrow.Author.Rules.{rules}
 use mathlib.Core.Path.{refl}
-use mathlib.Core.List.{[], ◌∷◌}
 use Rattle.can_state.specs.View.{view}
-use Rattle.can_calls.specs.Request.{SERVICE, POLL, EVENT, outcome_of}
+use Rattle.can_calls.specs.Request.{POLL, EVENT, outcome_of}
 use Rattle.can_calls.proofs.Laws.{next_keeps}
 use Rattle.can_calls.specs.declared.request.Function.TheVariants.{PollWrite, PollRead, PollMode, PollBusOff, Sent, BusOff, ErrorCounts, Arrived}
 use Rattle.can_calls.proofs.Arms.{kind_of_four, is_service}

@@ -1,8 +1,5 @@
 -- `can_calls::perform::poll` meets its contract: the poll that is made is the one that the request names.
-use borrow.Author.Rules.{rules}
-use mathlib.Core.Path.{refl}
-use mathlib.Core.List.{[], ◌∷◌}
-use Rattle.can_calls.specs.Request.{POLL, outcome_of}
+use Rattle.can_calls.specs.Request.{outcome_of}
 use Rattle.can_calls.proofs.Laws.{told}
 use Rattle.can_calls.proofs.Arms.{last_poll}
 use Rattle.can_calls.proofs.perform.poll.Goals as goal

@@ -1,12 +1,9 @@
 -- `can_calls::perform::service` meets its contract: the service is the one that the request names. Those that take no memory leave it as it
 -- is.
-use borrow.Author.Rules.{rules}
-use mathlib.Core.Path.{refl}
-use mathlib.Core.List.{[], ◌∷◌}
 use lib.ListN.{length}
 use Rattle.rules.specs.Outcome.{of_mode, of_error_state, of_rx_errors, of_tx_errors}
 use Rattle.can_state.specs.View.{view}
-use Rattle.can_calls.specs.Request.{SERVICE, outcome_of}
+use Rattle.can_calls.specs.Request.{outcome_of}
 use Rattle.can_calls.proofs.Laws.{told, set_keeps, ask_keeps}
 use Rattle.can_calls.proofs.Arms.{last_service}
 use Rattle.can_calls.proofs.perform.service.Goals as goal

@@ -1,5 +1,4 @@
 -- `can_calls::perform::write` meets its contract: the reply is told as its verdict and its answer, and the handle is the number's low 16 bits.
-use borrow.Author.Rules.{rules}
 use Rattle.can_calls.proofs.Laws.{replied}
 use Rattle.can_calls.proofs.perform.write.Goals as goal
 

@@ -4,11 +4,9 @@ use mathlib.Core.Path.{◌≡◌, sym, ap, ◌∙◌}
 use mathlib.Core.Bool.{true, false}
 use mathlib.Core.List.{List}
 use lib.ListN.{length}
-use borrow.Author.Rules.{rules}
 use Rattle.rules.specs.Configuration.{Configuration, header_size, version_of, controllers_byte, objects_byte, accepted_bytes}
 use Rattle.rules.specs.Can.{can_format}
 use Rattle.rules.specs.Chip.{chip}
-use Rattle.laws.proofs.Tests.{not_true, not_false}
 use Rattle.can_config.specs.Reading.{records_say}
 use Rattle.can_config.proofs.Accepted.{said_by, outline_holds}
 use Rattle.can_faults.specs.declared.fault.Rule.{Rule}

@@ -5,13 +5,11 @@ use mathlib.Core.Bool.{true, false, cond, ◌&&◌}
 use mathlib.Core.List.{List, [], ◌∷◌}
 use lib.ListN.{take, get_or}
 use lib.Dec.{eqb, leb}
-use borrow.Author.Rules.{rules}
 use borrow.Author.Tests.{le-leb, lt-leb, eq-eqb, ne_eqb}
 use Rattle.rules.specs.Bytes.{same_bytes}
 use Rattle.rules.specs.Configuration.{version_of, controllers_byte, objects_byte, size_valid}
 use Rattle.rules.specs.Can.{can_format, known_version}
 use Rattle.rules.specs.Chip.{chip}
-use Rattle.laws.proofs.Tests.{not_true, not_false}
 use Rattle.can_faults.specs.declared.fault.Rule.TheVariants.{Accepted, Size}
 use Rattle.can_faults.specs.Fault.{first_broken, outline_rules}
 use Rattle.can_faults.proofs.outline.outline_rule.Goals as goal

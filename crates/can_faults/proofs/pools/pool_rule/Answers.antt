@@ -5,8 +5,7 @@ use mathlib.Core.Bool.{true, false, cond}
 use mathlib.Core.List.{[]}
 use lib.ListN.{get_or}
 use lib.Dec.{eqb}
-use borrow.Author.Rules.{rules}
-use Rattle.laws.proofs.Tests.{cond_map, not_true, not_false}
+use Rattle.laws.proofs.Tests.{cond_map}
 use Rattle.core_places.specs.Arrays.{Alike}
 use Rattle.core_places.proofs.Laws.{owner_seen}
 use Rattle.can_state.specs.Tests.{SettingsAlike}

@@ -1,5 +1,4 @@
 -- What is read is what stands in the array.
-use borrow.Author.Rules.{rules}
 use Rattle.can_faults.proofs.pools.same.Goals as goal
 
 pub returns : goal.returns

@@ -3,11 +3,9 @@ use mathlib.Core.Path.{◌≡◌}
 use mathlib.Core.Bool.{true, cond, ◌||◌}
 use lib.Dec.{eqb}
 use lib.Bits.{bit_and}
-use borrow.Author.Rules.{rules}
 use borrow.Author.Tests.{eq-eqb, ne_eqb}
 use Rattle.rules.specs.Can.{extended_only, within_mask}
 use Rattle.can_state.specs.View.{view_settings}
-use Rattle.laws.proofs.Tests.{not_true, not_false}
 use Rattle.can_faults.specs.declared.fault.Rule.TheVariants.{Accepted, StandardCode, StandardMask, StrayBit}
 use Rattle.can_faults.specs.Fault.{first_broken, receiving_rules}
 use Rattle.can_faults.proofs.record.receiving_rule.Goals as goal

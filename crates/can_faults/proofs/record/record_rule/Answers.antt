@@ -4,7 +4,6 @@ use mathlib.Core.Path.{◌≡◌, sym, ◌∙◌}
 use mathlib.Core.List.{List}
 use lib.ListN.{get_or}
 use lib.Dec.{lit<}
-use borrow.Author.Rules.{rules}
 use Rattle.rules.specs.Core.{Owner}
 use Rattle.rules.specs.Configuration.{header_size, owner_of, object_record}
 use Rattle.rules.specs.Can.{Settings, can_format, settings_of}

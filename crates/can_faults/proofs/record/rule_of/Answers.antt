@@ -2,11 +2,9 @@
 use mathlib.Core.Path.{◌≡◌}
 use mathlib.Core.Bool.{true, false, cond, ◌||◌}
 use lib.Dec.{eqb}
-use borrow.Author.Rules.{rules}
 use borrow.Author.Tests.{le-leb, lt-leb}
 use Rattle.core_places.specs.View.{view_owner}
 use Rattle.can_state.specs.View.{view_settings}
-use Rattle.laws.proofs.Tests.{not_true, not_false}
 use Rattle.can_faults.specs.Fault.{first_broken, sending_rules, receiving_rules, rules_of}
 use Rattle.can_faults.proofs.record.rule_of.Goals as goal
 

@@ -1,16 +1,12 @@
 -- The loop's invariant: no record passed breaks a rule.
 use Prim.Native.Nat.{ℕ, ◌≤◌, ◌-◌}
-use native.Mathlib.Omega.{arith}
-use mathlib.Core.Path.{◌≡◌, refl, sym, ◌∙◌}
+use mathlib.Core.Path.{◌≡◌}
 use mathlib.Core.List.{List}
-use borrow.Author.Rules.{rules}
 use Rattle.rules.specs.Configuration.{object_record}
 use Rattle.rules.specs.Can.{can_format}
 use Rattle.rules.specs.Chip.{chip}
-use Rattle.laws.proofs.Tests.{not_true, not_false}
 use Rattle.can_faults.specs.declared.fault.Rule.{Rule}
-use Rattle.can_faults.specs.Fault.{is_accepted, record_rule, no_fault, first_fault}
-use Rattle.can_faults.proofs.Laws.{none_more, found}
+use Rattle.can_faults.specs.Fault.{record_rule, no_fault, first_fault}
 use Rattle.can_faults.proofs.records.records_fault.Given as goal
 
 -- the first rule that record h breaks

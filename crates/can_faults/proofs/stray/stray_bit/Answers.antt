@@ -1,9 +1,9 @@
-use Prim.Native.Nat.{◌-◌, ◌≤◌}
+use Prim.Native.Nat.{◌-◌}
 use native.Mathlib.Omega.{arith}
 use mathlib.Core.Path.{◌≡◌, refl, sym, ◌∙◌}
 use mathlib.Core.Bool.{true, false}
-use Rattle.rules.specs.Can.{identifier_bits, stray_at}
-use Rattle.can_faults.specs.Stray.{highest_below, stray_bit}
+use Rattle.rules.specs.Can.{stray_at}
+use Rattle.can_faults.specs.Stray.{highest_below}
 use Rattle.can_faults.proofs.Bits.{highest_step}
 use Rattle.can_faults.proofs.stray.stray_bit.Goals as goal
 

@@ -1,11 +1,8 @@
 -- The loop's invariant: no bit passed is stray, so that the highest stray one is among those that are left.
-use Prim.Native.Nat.{◌-◌, ◌≤◌}
-use native.Mathlib.Omega.{arith}
-use mathlib.Core.Path.{◌≡◌, refl, sym, ◌∙◌}
-use mathlib.Core.Bool.{true, false}
+use Prim.Native.Nat.{◌≤◌}
+use mathlib.Core.Path.{◌≡◌}
 use Rattle.rules.specs.Can.{identifier_bits, stray_at}
 use Rattle.can_faults.specs.Stray.{highest_below, stray_bit}
-use Rattle.can_faults.proofs.Bits.{highest_step}
 use Rattle.can_faults.proofs.stray.stray_bit.Given as goal
 
 abbrev pub invariant-loop-left : goal.invariant-loop-left

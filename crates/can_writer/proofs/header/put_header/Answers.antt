@@ -5,7 +5,6 @@ use native.Mathlib.Omega.{arith}
 use Rattle.rules.specs.Bytes.{big_endian}
 use Rattle.rules.specs.Can.{header}
 use Rattle.laws.proofs.Splices.{splice_then}
-use borrow.Author.Rules.{rules}
 use Rattle.can_writer.proofs.header.put_header.Goals as goal
 
 pub returns : goal.returns

@@ -1,10 +1,8 @@
 -- Past the test of version and validity, the records decide.
 use mathlib.Core.Path.{◌≡◌, sym, ap₂, ◌∙◌}
 use mathlib.Core.Bool.{◌&&◌}
-use borrow.Author.Rules.{rules}
 use Rattle.rules.specs.Configuration.{Configuration}
 use Rattle.rules.specs.Can.{can_format}
-use Rattle.laws.proofs.Tests.{not_true, not_false}
 use Rattle.core_places.proofs.Laws.{zip_3_length}
 use Rattle.can_state.proofs.Laws.{settings_length}
 use Rattle.can_writer.specs.Records.{configured}

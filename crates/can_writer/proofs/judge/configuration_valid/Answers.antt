@@ -5,14 +5,13 @@ use mathlib.Core.Bool.{Bool, true, ◌&&◌}
 use native.Mathlib.Omega.{arith}
 use lib.Dec.{leb}
 use lib.ListN.{length}
-use borrow.Author.Rules.{rules}
 use borrow.Author.Tests.{leb-true}
 use Rattle.rules.specs.Repeat.{all_below}
 use Rattle.rules.specs.Core.{counts_valid, owner_place_valid}
 use Rattle.rules.specs.Configuration.{settings_agreed}
 use Rattle.rules.specs.Can.{can_format}
 use Rattle.rules.specs.Chip.{chip}
-use Rattle.laws.proofs.Tests.{right, not_true, not_false}
+use Rattle.laws.proofs.Tests.{right}
 use Rattle.core_places.specs.Arrays.{owners_in}
 use Rattle.core_validity.specs.Pools.{pools_valid}
 use Rattle.core_validity.proofs.Laws.{and_pairs}

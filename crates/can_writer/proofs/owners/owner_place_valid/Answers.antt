@@ -1,6 +1,5 @@
 -- Each arm answers with the test of its case.
 use borrow.Author.Tests.{lt-ltb, le-ltb}
-use borrow.Author.Rules.{rules}
 use Rattle.can_writer.proofs.owners.owner_place_valid.Goals as goal
 
 pub returns-then-h-object_count : goal.returns-then-h-object_count

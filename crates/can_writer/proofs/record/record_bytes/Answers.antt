@@ -4,7 +4,6 @@ use mathlib.Core.Bool.{Bool, true, false, cond}
 use mir.Val.{bool_byte}
 use native.Mathlib.Nat.{div-one}
 use Rattle.rules.specs.Bytes.{big_endian}
-use borrow.Author.Rules.{rules}
 use Rattle.can_writer.proofs.record.record_bytes.Goals as goal
 
 kind_byte : (b : Bool) → bool_byte b ≡ cond b 1 0

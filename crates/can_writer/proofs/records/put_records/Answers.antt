@@ -1,11 +1,9 @@
-use Prim.Native.Nat.{ℕ, ◌+◌, ◌*◌, ◌-◌, ◌≤◌}
+use Prim.Native.Nat.{ℕ, ◌+◌, ◌*◌, ◌≤◌}
 use mathlib.Core.Path.{◌≡◌, refl, ap, ap₂, sym, ◌∙◌}
 use mathlib.Core.List.{List}
 use native.Mathlib.Omega.{arith}
-use borrow.Author.Rules.{rules}
 use lib.ListN.{length}
 use Rattle.rules.specs.Repeat.{concat_below}
-use Rattle.rules.specs.Bytes.{splice}
 use Rattle.rules.specs.Core.{Owner, owner_at}
 use Rattle.rules.specs.Configuration.{header_size, settings_at}
 use Rattle.rules.specs.Can.{Settings, can_format, record_of}

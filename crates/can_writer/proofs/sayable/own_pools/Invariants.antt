@@ -1,14 +1,11 @@
 -- `ok` is the test of all objects passed.
 use Prim.Native.Nat.{ℕ, ◌≤◌, ◌-◌}
-use mathlib.Core.Path.{◌≡◌, refl, ap, ◌∙◌}
+use mathlib.Core.Path.{◌≡◌}
 use mathlib.Core.Bool.{Bool, false, ◌||◌}
 use mathlib.Core.List.{List}
-use native.Mathlib.Omega.{arith}
 use lib.Dec.{eqb}
 use lib.ListN.{get_or}
-use borrow.Author.Rules.{rules}
 use Rattle.rules.specs.Repeat.{all_below}
-use Rattle.core_validity.proofs.Laws.{all_below_more}
 use Rattle.can_writer.proofs.sayable.own_pools.Given as goal
 
 -- object h receives, or has its own number as its pool

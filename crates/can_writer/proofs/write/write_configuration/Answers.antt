@@ -1,7 +1,6 @@
 -- The fields that are lent have the chip's places.
 use native.Mathlib.Omega.{arith}
 use Rattle.can_config.proofs.Sizes.{sizes}
-use borrow.Author.Rules.{rules}
 use Rattle.can_writer.proofs.write.write_configuration.Goals as goal
 
 pub write_lent-requires : goal.write_lent-requires

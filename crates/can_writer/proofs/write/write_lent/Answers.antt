@@ -4,14 +4,12 @@ use mathlib.Core.Bool.{true}
 use mathlib.Core.List.{[], ◌∷◌, ◌++◌}
 use native.Mathlib.Omega.{arith}
 use lib.ListN.{length}
-use borrow.Author.Rules.{rules}
 use Rattle.rules.specs.Repeat.{concat_below}
 use Rattle.rules.specs.Bytes.{big_endian}
 use Rattle.rules.specs.Configuration.{Configuration, header_size}
 use Rattle.rules.specs.Writer.{can_say, configuration_bytes}
 use Rattle.rules.specs.Can.{can_format, header}
 use Rattle.rules.specs.Chip.{chip}
-use Rattle.laws.proofs.Tests.{not_true, not_false}
 use Rattle.laws.proofs.Configurations.{Placed, placed, say_facts}
 use Rattle.laws.proofs.Splices.{splice_then, length_splice}
 use Rattle.can_writer.specs.Records.{configured, record_at}
