@@ -44,7 +44,7 @@ pub fn write(
 )
     requires object_count_le_objects { (object_count ≤ chip.objects) × Places chip.controllers modes.now requests.now marks.now
         × (length owners.now ≡ chip.objects) × (length receivings.now ≡ chip.objects) × (length pools.now ≡ chip.objects) × Places chip.objects pendings.old dones.old fulls.old }
-    requires places_2 { Places chip.objects payloads.now paddings.now codes.now × (length masks.now ≡ chip.objects) }
+    requires settings_places { Places chip.objects payloads.now paddings.now codes.now × (length masks.now ≡ chip.objects) }
     ensures left { (s : rules.State can_format) → rules.valid chip can_format s ≡ true
         → Held s.core initialised object_count owners.now receivings.now
         (controllers_in modes.now requests.now marks.now)
@@ -108,7 +108,7 @@ pub fn arrive(
 )
     requires object_count_le_objects { (object_count ≤ chip.objects) × Places chip.controllers modes.now requests.now marks.now
         × (length owners.now ≡ chip.objects) × (length receivings.now ≡ chip.objects) × Places chip.objects pendings.old dones.old fulls.old }
-    requires places_2 { Places chip.objects payloads.now paddings.now codes.now × (length masks.now ≡ chip.objects) }
+    requires settings_places { Places chip.objects payloads.now paddings.now codes.now × (length masks.now ≡ chip.objects) }
     ensures left { (s : rules.State can_format) → rules.valid chip can_format s ≡ true
         → Controlled s.core initialised controller_count (controllers_in modes.now requests.now marks.now)
         → Held s.core initialised object_count owners.now receivings.now

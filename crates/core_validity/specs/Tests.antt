@@ -52,7 +52,7 @@ errors_suit ks es count = all_below count (λ c. errors_valid (controller_at ks 
 abbrev pub errors_rest : List Errors → ℕ → Bool
 errors_rest es count = all_from (length es) count (λ c. errors_none (errors_at es c))
 
--- the errors of all places, where so many controllers are in use; `all-errors-valid` of a core (proofs/Whole.antt)
+-- the errors of all places, where so many controllers are in use; `all_errors_valid` of a core (proofs/Whole.antt)
 abbrev pub errors_places_valid : ℕ → ℕ → List Controller → List Errors → Bool
 errors_places_valid places count ks es =
     eqb (length es) places

@@ -43,7 +43,7 @@
 --   must agree (02, Q-2)         pool_valid, settings_agreed          each object of a pool with the lowest: controller; payload and padding
 --   stray bit (02, Q-1)          stray_at                             a one of the code where the mask has a zero; without any: within_mask
 --   one that Init accepts        configuration_valid                  once it is read: configuration_of
---   bad configuration            not accepted-bytes
+--   bad configuration            not accepted_bytes
 --   writer (02, Q-2)             configuration_bytes, buffer_after    the bytes of a version, and the buffer they are written into
 --   what a version can say       can_say                              else 9; then 32 for a short buffer: writer_reason
 --
@@ -56,34 +56,34 @@
 --
 -- Modes; Services and polls (Mode, Services, Polls, Calls, Can)
 --   Init, DeInit, Write          init, deinit, write
---   SetControllerMode, Set       set-controller-mode
+--   SetControllerMode, Set       set_controller_mode
 --   GetControllerMode, Get       ask_controller                       of_mode; 02's questions, Q-5: of_error_state, of_rx_errors, of_tx_errors
 --   handle                       handle                               read back from an object's bytes by handle_in
 --   names the pool (02, Q-2)     names_pool                           a sending object that is its pool's lowest: lowest_of
 --   lowest free member           free_member                          of the pool of object h; h itself where none is free
 --   write poll                   main_function_write                  visits every object in use, as a read poll does: visit_all
---   read poll                    main-function-read
+--   read poll                    main_function_read
 --   mode poll                    main_function_mode                   every controller in use has its turn, as in a bus-off poll: turn_all
---   bus-off poll                 main-function-bus-off
+--   bus-off poll                 main_function_bus_off
 --   closing notice               closing_notification                 tx_confirmation or tx_cancellation, by the mailbox alone (02, Q-4)
 --   confirmed and freed          confirmation                         of the gone objects
 --   indicated and emptied        indication                           of the full objects; its record is rx_indication, kind 2, received
 --   cancelled and freed          closing                              of a controller's occupied objects; the gone ones are confirmed (02, Q-4)
 --   carried out and cleared      mode_change                          of a controller with a request; what it is then: entering_request
 --   for each marked controller   going_off                            what a marked controller is then: entering_bus_off
---   leaving STARTED, a stop      leaves-started
---   mode record, bus-off record  mode-indication, bus-off-indication
+--   leaving STARTED, a stop      leaves_started
+--   mode record, bus-off record  mode_indication, bus_off_indication
 --   entering passive (02, Q-5)   error_passive_indication             its record, kind 8, and passive_report, which writes it
 --   in rising order              rising                               over numbers below n, each step on what the last one left (Repeat)
---   Data of an object            data-of
+--   Data of an object            data_of
 --
 -- Bench events (Events, Calls, Can)
 --   Sent                         tx_complete                          an unsent frame is has_unsent
---   Bus-off                      bus-off-detected
+--   Bus-off                      bus_off_detected
 --   error counts (02, Q-5)       errors_counted                       "A new event .. sets both"; the mark by it: counted_controller
 --   Arrived                      frame_arrived                        best_object is the one that fits best, the lowest among equals
 --   stored, unwanted, lost       stored_in, unwanted, lost            answers of an arrival; a write's answer is taken_by
---   runtime error, data lost     data-lost
+--   runtime error, data lost     data_lost
 --   who sends next (02, Q-2)     next_to_send                         its answer is sends_next; among objects that wait: competes
 --   base identifier, lower bits  base_identifier, lower_identifier    02's order as one number is arbitration_key; as a rank, priority
 --

@@ -1,6 +1,5 @@
 -- `can_composed::start_and_write` meets its contract: each call is handed the state and the memory that the last one left, and what it
 -- then leaves is its outcome, so the four contracts make up the list's. No call changes the length of the sheet.
-use borrow.Author.Rules.{rules}
 use native.Mathlib.Omega.{arith}
 use mathlib.Core.Path.{◌≡◌, ap, ◌∙◌}
 use lib.ListN.{length}

@@ -1,7 +1,6 @@
 -- The casts keep the low eight bits, as the definition does; the rest computes.
 use native.Mathlib.Nat.{div-one}
 use Rattle.rules.specs.Bytes.{big_endian}
-use borrow.Author.Rules.{rules}
 use Rattle.can_layout.proofs.object.head.Goals as goal
 
 pub returns : goal.returns

@@ -6,7 +6,6 @@ use native.Mathlib.Omega.{arith}
 use lib.ListN.{length, replicate, length-append, length-replicate}
 use Rattle.rules.specs.Can.{longest_fd}
 use Rattle.laws.proofs.Splices.{splice_then}
-use borrow.Author.Rules.{rules}
 use Rattle.can_layout.proofs.object.put_data.Goals as goal
 
 pub returns : goal.returns

@@ -7,7 +7,6 @@ use Rattle.rules.specs.Bytes.{big_endian}
 use Rattle.rules.specs.Can.{object_head, object_data, object_bytes}
 use Rattle.laws.proofs.Splices.{splice_then}
 use Rattle.can_layout.proofs.ObjectBytes.{wire_within}
-use borrow.Author.Rules.{rules}
 use Rattle.can_layout.proofs.object.put_object.Goals as goal
 
 pub put_data-requires : goal.put_data-requires

@@ -7,7 +7,6 @@ use borrow.Author.Tests.{lt-ltb, le-ltb, le-leb, lt-leb, eq-eqb, ne_eqb}
 use Rattle.rules.specs.Limits.{ram_size, object_start}
 use Rattle.rules.specs.Can.{longest_fd, data_of}
 use Rattle.rules.specs.Chip.{chip}
-use borrow.Author.Rules.{rules}
 use Rattle.can_layout.proofs.read.data_of.Goals as goal
 
 -- where an object's wire length stands

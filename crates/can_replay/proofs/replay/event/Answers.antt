@@ -4,7 +4,6 @@ use Rattle.can_state.specs.View.{view}
 use Rattle.can_step.specs.Gathered.{gathered}
 use Rattle.can_replay.specs.Replayed.{events_in}
 use Rattle.can_replay.proofs.Plays.{with_bytes}
-use borrow.Author.Rules.{rules}
 use Rattle.can_replay.proofs.replay.event.Goals as goal
 
 pub overflow_cast-start : goal.overflow_cast-start

@@ -1,5 +1,4 @@
 -- The least of all lengths, one after the other.
-use borrow.Author.Rules.{rules}
 use Rattle.can_replay.proofs.replay.event_count.Goals as goal
 
 pub returns : goal.returns

@@ -2,7 +2,6 @@
 use lib.Dec.{leb}
 use borrow.Author.Tests.{leb-true}
 use Rattle.laws.proofs.Tests.{left, right}
-use borrow.Author.Rules.{rules}
 use Rattle.can_replay.proofs.replay.part.Goals as goal
 
 pub slice_bounds-result-count : goal.slice_bounds-result-count

@@ -2,7 +2,6 @@
 use Prim.Native.Nat.{◌-◌, ◌≤◌}
 use mathlib.Core.Path.{sym, ◌∙◌}
 use native.Mathlib.Omega.{arith}
-use borrow.Author.Rules.{rules}
 use Rattle.history.specs.Replay.{whole}
 use Rattle.can_state.specs.View.{view}
 use Rattle.can_step.specs.Gathered.{gathered}

@@ -7,7 +7,6 @@ use Rattle.history.proofs.Replay.{unsound_stays}
 use Rattle.can_state.specs.View.{view}
 use Rattle.can_state.proofs.Sizes.{sizes}
 use Rattle.can_replay.specs.Replayed.{events_in, call_at}
-use borrow.Author.Rules.{rules}
 use Rattle.can_replay.proofs.replay.replay.Goals as goal
 
 pub returns-then-not-valid : goal.returns-then-not-valid

@@ -6,14 +6,13 @@ use Rattle.rules.specs.Calls.{frame_arrived}
 use Rattle.can_arrivals.proofs.Arrivals.{state_received}
 use Rattle.can_step.proofs.Gates.{full_gate_is, full_passed, left_is}
 use Rattle.can_step.proofs.Rooms.{alike}
-use borrow.Author.Rules.{rules}
 use Rattle.can_step.proofs.frames.arrive.Goals as goal
 
 pub arrive_lent-requires : goal.arrive_lent-requires
 arrive_lent-requires c =
     let a = c.args in
     let pre = c.requires.object_count_le_objects in
-    let own = c.requires.places_2 in record {
+    let own = c.requires.settings_places in record {
       alike = alike pre.1;
       owners_len = (pre.2, pre.3, pre.4.first, alike pre.4, own.0.first, own.0.second, own.0.third, own.1);
       arrival_room = (λ none.
@@ -26,7 +25,7 @@ pub returns : goal.returns
 unfolding frame_arrived
 returns c =
     let a = c.args in
-    let own = c.requires.places_2 in
+    let own = c.requires.settings_places in
     let boxes = c.requires.object_count_le_objects.4 in record {
       left = (λ s v controlled held settings.
           let got =

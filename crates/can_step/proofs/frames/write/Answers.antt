@@ -46,6 +46,6 @@ returns c =
     let a = c.args in record {
       left = (λ s v held pooled own.
           let settings = c.settings_at-settings.ensures ∙ ap (λ (ss : List Settings). settings_at can_format ss a.object) (sym own) in
-          left_is (rw (full_gate_is s v (length a.sheet.now) a.ram.now c.full_gate-gate.ensures) at (c.write_lent.ensures s held pooled settings (padded s a.payloads.now a.paddings.now a.codes.now a.masks.now c.requires.places_2 own))));
+          left_is (rw (full_gate_is s v (length a.sheet.now) a.ram.now c.full_gate-gate.ensures) at (c.write_lent.ensures s held pooled settings (padded s a.payloads.now a.paddings.now a.codes.now a.masks.now c.requires.settings_places own))));
       places = record { first = search rules; second = search rules; third = c.write_lent.auto.fulls ∙ c.requires.object_count_le_objects.5.third };
     }

@@ -5,7 +5,6 @@ use lib.ListN.{length}
 use Rattle.can_state.proofs.Gates.{lifted_performed}
 use Rattle.can_step.proofs.Gates.{full_gate_is, full_passed, left_is}
 use Rattle.can_step.proofs.Rooms.{alike, room_for_all}
-use borrow.Author.Rules.{rules}
 use Rattle.can_step.proofs.polls.controllers.Goals as goal
 
 pub poll_controllers-requires : goal.poll_controllers-requires

@@ -10,7 +10,6 @@ use Rattle.core_services.proofs.Laws.{gate_room}
 use Rattle.can_state.proofs.Gates.{lifted_performed}
 use Rattle.can_step.proofs.Gates.{sheet_gate_is, left_is}
 use Rattle.can_step.proofs.Rooms.{alike}
-use borrow.Author.Rules.{rules}
 use Rattle.can_step.proofs.services.ask.Goals as goal
 
 pub ask_controller-requires : goal.ask_controller-requires

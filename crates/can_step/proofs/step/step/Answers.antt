@@ -19,7 +19,6 @@ use Rattle.can_state.proofs.Gates.{Within, within}
 use Rattle.can_polls.proofs.Rooms as rooms
 use Rattle.can_step.specs.Gathered.{gathered}
 use Rattle.can_step.proofs.Steps.{controllers, errors, mailboxes, settings, sized_again, beyond, made_by, made_otherwise}
-use borrow.Author.Rules.{rules}
 use Rattle.can_step.proofs.step.step.Goals as goal
 
 -- what the calls read of its core
@@ -57,7 +56,7 @@ write-requires c =
     gathered a.initialised.now a.controller_count.now a.object_count.now a.modes.now a.requests.now a.marks.now a.recoverings.now a.tx_errors.now a.rx_errors.now a.owners.now a.receivings.now a.pools.now a.pendings.now a.dones.now a.fulls.now a.payloads.now a.paddings.now
     a.codes.now a.masks.now in
     let few : Within state = within state c.requires.sound in
-    record { object_count_le_objects = (few.objects, controllers state c.requires.sized, c.requires.sized.owners, c.requires.sized.receivings, c.requires.sized.pools, mailboxes state c.requires.sized); places_2 = (settings state c.requires.sized, c.requires.sized.masks) }
+    record { object_count_le_objects = (few.objects, controllers state c.requires.sized, c.requires.sized.owners, c.requires.sized.receivings, c.requires.sized.pools, mailboxes state c.requires.sized); settings_places = (settings state c.requires.sized, c.requires.sized.masks) }
 
 pub objects-requires : goal.objects-requires
 objects-requires c =
@@ -142,7 +141,7 @@ arrive-requires c =
     gathered a.initialised.now a.controller_count.now a.object_count.now a.modes.now a.requests.now a.marks.now a.recoverings.now a.tx_errors.now a.rx_errors.now a.owners.now a.receivings.now a.pools.now a.pendings.now a.dones.now a.fulls.now a.payloads.now a.paddings.now
     a.codes.now a.masks.now in
     let few : Within state = within state c.requires.sound in
-    record { object_count_le_objects = (few.objects, controllers state c.requires.sized, c.requires.sized.owners, c.requires.sized.receivings, mailboxes state c.requires.sized); places_2 = (settings state c.requires.sized, c.requires.sized.masks) }
+    record { object_count_le_objects = (few.objects, controllers state c.requires.sized, c.requires.sized.owners, c.requires.sized.receivings, mailboxes state c.requires.sized); settings_places = (settings state c.requires.sized, c.requires.sized.masks) }
 
 pub returns-in-0 : goal.returns-in-0
 unfolding performed

@@ -1,6 +1,5 @@
 -- The call is made on the state that stands in the arrays, and what it leaves is laid back.
 use Rattle.can_step.proofs.Gates.{left_is, laid}
-use borrow.Author.Rules.{rules}
 use Rattle.can_step.proofs.whole.deinit.Goals as goal
 
 pub returns : goal.returns
