@@ -165,6 +165,7 @@ fn service(state: State, ram: &mut [u8], sheet: &mut [u32], data: &[u8], request
 }
 
 // The polls, which leave the memory as it is.
+#[tactic(auto, using(crate::proofs::Laws::told), unfolding(crate::specs::Request::outcome_of))]
 fn poll(state: State, ram: &[u8], sheet: &mut [u32], data: &[u8], request: Request) -> Played
     requires { kind request.function ≡ POLL }
     ensures { Performed (outcome request «data».now (view state) (length sheet.old) ram.now)
