@@ -1,15 +1,17 @@
 -- No rejection has the number of an acceptance, and what a call owes by the reason that it found.
 use Prim.Native.Nat.{ℕ}
+use Rattle.std.specs.Prelude.{Result, Ok, Err}
+use Rattle.std.specs.Result.{result_and}
 use mathlib.Core.Path.{◌≡◌, refl, sym, ◌∙◌}
 use mathlib.Core.Bool.{false}
 use mathlib.Core.List.{List, []}
 use lib.Dec.{eqb}
-use Rattle.rules.specs.Reason.{return_code}
+use Rattle.rules.specs.Reason.{return_code, ◌then◌}
 use Rattle.rules.specs.Notification.{Notification}
 use Rattle.rules.specs.Outcome.{Outcome, Answer, rejected, accepted, judged}
 use Rattle.laws.proofs.Reasons.{judged_accepts, judged_refuses}
 use Rattle.laws.proofs.Sheets.{sheet_none}
-use Rattle.core_answers.specs.Answer.{reason_of}
+use Rattle.core_answers.specs.Answer.{reason_of, verdict_reason}
 use Rattle.core_answers.specs.Performed.{Performed, Noted}
 use Rattle.core_answers.specs.declared.rejection.Rejection.{Rejection}
 use Rattle.core_answers.specs.declared.rejection.Rejection.TheVariants.{ParamHandle, ParamDataLength, ParamController, Uninit, Transition, InitFailed, SheetTooShort, WrongRamSize, BadIdentifier, NotStarted, ObjectBusy, BusOff, NothingToSend, BadLength, InvalidState, ErrorCountTooLarge}
@@ -31,6 +33,11 @@ reason_named NothingToSend = refl
 reason_named BadLength = refl
 reason_named InvalidState = refl
 reason_named ErrorCountTooLarge = refl
+
+-- one verdict and then another: the first reason there is
+pub and_reason : {T : Type 0} (first : Result (Unit {0}) Rejection) (second : Result T Rejection) → verdict_reason (result_and first second) ≡ (verdict_reason first then verdict_reason second)
+and_reason (Ok x) second = refl
+and_reason (Err r) second = rw (reason_named r)
 
 -- nothing is written
 pub noted_none : (sheet : List ℕ) → Noted [] sheet sheet 0

@@ -1,10 +1,8 @@
 -- The paper's number for every case of an answer. 01, "Reasons for a no".
-use Rattle.std.specs.Prelude.{ℕ}
+use Rattle.std.specs.Prelude.{ℕ, Result, Ok, Err}
 use Rattle.rules.specs.Reason.{CAN_E_PARAM_HANDLE, CAN_E_PARAM_DATA_LENGTH, CAN_E_PARAM_CONTROLLER, CAN_E_UNINIT, CAN_E_TRANSITION, CAN_E_INIT_FAILED, SHEET_TOO_SHORT, WRONG_RAM_SIZE, BAD_IDENTIFIER, NOT_STARTED, OBJECT_BUSY, BUS_OFF, NOTHING_TO_SEND, BAD_LENGTH, INVALID_STATE, ERROR_COUNT_TOO_LARGE}
 use Rattle.core_answers.specs.declared.rejection.Rejection.{Rejection}
 use Rattle.core_answers.specs.declared.rejection.Rejection.TheVariants.{ParamHandle, ParamDataLength, ParamController, Uninit, Transition, InitFailed, SheetTooShort, WrongRamSize, BadIdentifier, NotStarted, ObjectBusy, BusOff, NothingToSend, BadLength, InvalidState, ErrorCountTooLarge}
-use Rattle.core_answers.specs.declared.verdict.Verdict.{Verdict}
-use Rattle.core_answers.specs.declared.verdict.Verdict.TheVariants.{Accepted, Rejected}
 
 abbrev pub reason_of : Rejection → ℕ
 reason_of ParamHandle = CAN_E_PARAM_HANDLE
@@ -24,7 +22,7 @@ reason_of BadLength = BAD_LENGTH
 reason_of InvalidState = INVALID_STATE
 reason_of ErrorCountTooLarge = ERROR_COUNT_TOO_LARGE
 
--- "With 0 the reason is 0."
-abbrev pub verdict_reason : Verdict → ℕ
-verdict_reason Accepted = 0
-verdict_reason (Rejected r) = reason_of r
+-- "With 0 the reason is 0.", whatever else is answered.
+abbrev pub verdict_reason : {T : Type 0} → Result T Rejection → ℕ
+verdict_reason (Ok answer) = 0
+verdict_reason (Err r) = reason_of r

@@ -7,29 +7,47 @@ ghost use Rattle.core_answers.specs.Answer.{verdict_reason};
 use crate::rejection::Rejection;
 use crate::verdict::Verdict;
 
+// A sheet of so many words, where a driver asks for sheet_size.
+#[tactic(auto, unfolding(rules::specs::Reason::first_reason))]
+fn judge_sheet(sheet: usize, sheet_size: usize) -> Verdict
+    ensures { verdict_reason result ≡ first_reason (SHEET_TOO_SHORT if ltb sheet sheet_size ∷ []) }
+{
+    if sheet < sheet_size {
+        return Err(Rejection::SheetTooShort);
+    }
+    Ok(())
+}
+
+// Memory of so many bytes.
+#[tactic(auto, unfolding(rules::specs::Reason::first_reason))]
+fn judge_ram(ram: usize, ram_size: usize) -> Verdict
+    ensures { verdict_reason result ≡ first_reason (WRONG_RAM_SIZE if not (eqb ram ram_size) ∷ []) }
+{
+    if ram != ram_size {
+        return Err(Rejection::WrongRamSize);
+    }
+    Ok(())
+}
+
 // A call that takes neither sheet nor memory.
+#[tactic(auto, unfolding(rules::specs::Reason::first_reason))]
 pub fn state_gate(valid: bool) -> Verdict
     ensures { verdict_reason result ≡ first_reason (INVALID_STATE if not valid ∷ []) }
 {
     if valid {
-        Verdict::Accepted
+        Ok(())
     } else {
-        Verdict::Rejected(Rejection::InvalidState)
+        Err(Rejection::InvalidState)
     }
 }
 
-// A call that takes a sheet of so many words, where a driver asks for sheet_size.
+// A call that takes a sheet of so many words.
 #[tactic(auto, unfolding(rules::specs::Reason::first_reason))]
 pub fn sheet_gate(valid: bool, sheet: usize, sheet_size: usize) -> Verdict
     ensures { verdict_reason result ≡ first_reason (INVALID_STATE if not valid ∷ SHEET_TOO_SHORT if ltb sheet sheet_size ∷ []) }
 {
-    if !valid {
-        return Verdict::Rejected(Rejection::InvalidState);
-    }
-    if sheet < sheet_size {
-        return Verdict::Rejected(Rejection::SheetTooShort);
-    }
-    Verdict::Accepted
+    state_gate(valid)?;
+    judge_sheet(sheet, sheet_size)
 }
 
 // A call that takes a sheet of so many words and memory of so many bytes.
@@ -48,18 +66,9 @@ pub fn full_gate(
         ∷ WRONG_RAM_SIZE if not (eqb ram ram_size)
         ∷ []) }
 {
-    let short = sheet < sheet_size;
-    let wrong = ram != ram_size;
-    if !valid {
-        return Verdict::Rejected(Rejection::InvalidState);
-    }
-    if short {
-        return Verdict::Rejected(Rejection::SheetTooShort);
-    }
-    if wrong {
-        return Verdict::Rejected(Rejection::WrongRamSize);
-    }
-    Verdict::Accepted
+    state_gate(valid)?;
+    judge_sheet(sheet, sheet_size)?;
+    judge_ram(ram, ram_size)
 }
 
 // A call that takes memory of so many bytes and no sheet.
@@ -67,12 +76,6 @@ pub fn full_gate(
 pub fn ram_gate(valid: bool, ram: usize, ram_size: usize) -> Verdict
     ensures { verdict_reason result ≡ first_reason (INVALID_STATE if not valid ∷ WRONG_RAM_SIZE if not (eqb ram ram_size) ∷ []) }
 {
-    let wrong = ram != ram_size;
-    if !valid {
-        return Verdict::Rejected(Rejection::InvalidState);
-    }
-    if wrong {
-        return Verdict::Rejected(Rejection::WrongRamSize);
-    }
-    Verdict::Accepted
+    state_gate(valid)?;
+    judge_ram(ram, ram_size)
 }

@@ -3,9 +3,9 @@
 use Rattle.rules.specs.Reason.{return_code}
 use Rattle.core_answers.proofs.verdict.return_code.Goals as goal
 
-pub returns-in-Accepted : goal.returns-in-Accepted
+pub returns-in-Ok : goal.returns-in-Ok
 unfolding return_code
-returns-in-Accepted c = rw c.in-Accepted.is
+returns-in-Ok g c = rw c.in-Ok.is
 
-pub returns-in-Rejected : goal.returns-in-Rejected
-returns-in-Rejected c = rw c.in-Rejected.is c.busy_or_not_ok.ensures
+pub returns-in-Err : goal.returns-in-Err
+returns-in-Err g c = rw c.in-Err.is c.busy_or_not_ok.ensures
