@@ -21,16 +21,13 @@ pub use can_chip::{CONTROLLERS, OBJECT_SIZE, OBJECTS, RAM_SIZE, SHEET_SIZE};
 // The driver state, and the state before initialisation.
 pub use can_state::state::{State, initial_state};
 
-// What the calls answer: a verdict or a reply, why a call is refused, and the numbers of both.
-pub use can_state::called::{Arrived, Asked, Called, Written};
-pub use can_writer::reply::{ConfigReply, config_verdict};
+// What the calls answer: a verdict or a reply, which are Results, why a call is refused, and the numbers of both.
+pub use can_state::called::Called;
+pub use can_writer::reply::ConfigReply;
 pub use core_answers::question::Question;
 pub use core_answers::rejection::{Rejection, reason};
-pub use core_answers::reply::{
-    ArrivalReply, NextReply, QuestionReply, WriteReply, arrival_verdict, next_verdict,
-    question_verdict, write_verdict,
-};
-pub use core_answers::verdict::{Verdict, return_code, verdict_reason};
+pub use core_answers::reply::{Arrival, ArrivalReply, NextReply, QuestionReply, WriteReply};
+pub use core_answers::verdict::{Verdict, return_code, verdict, verdict_reason};
 
 // Init: takes a configuration from bytes. Controllers are STOPPED afterwards, and the RAM is zero.
 pub use can_services::init::init;

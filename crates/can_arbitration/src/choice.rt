@@ -9,7 +9,7 @@ ghost use Rattle.can_arbitration.specs.Choice.{Waiting, rank_in, best_waiting};
 use can_chip::OBJECT_SIZE;
 use can_frame::identifier::priority;
 use core_events::next::competes;
-use core_events::pick::{Pick, better};
+use core_events::pick::{Picked, better};
 use core_layout::head::identifier_at;
 use core_places::at::read_mailbox;
 
@@ -30,13 +30,13 @@ pub fn choose(
     dones: &[bool],
     fulls: &[bool],
     ram: &[u8],
-) -> Pick
+) -> Option<Picked>
     requires { (count ≤ 2 ^ 32) × (count ≤ length owners.now) × (count ≤ length pendings.now) × Alike pendings.now dones.now fulls.now
         × (chip.object_size * count ≤ length ram.now) }
     ensures { (core : Core) → Waiting core count owners.now pendings.now dones.now fulls.now
         → view_pick result ≡ best_waiting core controller ram.now }
 {
-    let mut best = Pick::Nobody;
+    let mut best = None;
     for h in 0..count {
         let m = read_mailbox(pendings, dones, fulls, h);
         if competes(owners[h], controller, m) {

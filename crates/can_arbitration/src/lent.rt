@@ -4,7 +4,7 @@ ghost use Rattle.rules.specs.Core.{Core};
 ghost use Rattle.rules.specs.Events as rules;
 ghost use Rattle.rules.specs.Chip.{chip};
 ghost use Rattle.core_answers.specs.Answer.{verdict_reason};
-ghost use Rattle.core_answers.specs.Reply.{next_reason, next_answer};
+ghost use Rattle.core_answers.specs.Reply.{next_answer};
 ghost use Rattle.core_answers.specs.Performed.{Performed};
 ghost use Rattle.core_places.specs.Arrays.{Alike};
 ghost use Rattle.can_arbitration.specs.Choice.{rank_in};
@@ -12,7 +12,7 @@ ghost use Rattle.can_arbitration.specs.Lent.{Contending, NextRoom};
 
 use crate::choice::choose;
 use core_answers::reply::NextReply;
-use core_answers::verdict::{Verdict, then};
+use core_answers::verdict::Verdict;
 use core_events::next::told;
 use core_places::at::flag_at;
 use core_services::in_use::judge_in_use;
@@ -35,18 +35,13 @@ pub fn next_lent(
     ensures { (core : Core)
         → Contending core initialised controller_count object_count marks.now owners.now pendings.now dones.now fulls.now
         → Performed (rules.next_to_send (verdict_reason gate) core ram.now controller (rank_in ram.now))
-        (next_reason result) (next_answer result) core 0 ram.now [] [] }
+        (verdict_reason result) (next_answer result) core 0 ram.now [] [] }
 {
     let c = controller as usize;
-    let verdict = then(gate, judge_in_use(initialised, c, controller_count));
-    match verdict {
-        Verdict::Accepted => {
-            if flag_at(marks, c) {
-                NextReply::Nobody
-            } else {
-                told(choose(c, object_count, owners, pendings, dones, fulls, ram))
-            }
-        }
-        Verdict::Rejected(r) => NextReply::Rejected(r),
+    gate.and(judge_in_use(initialised, c, controller_count))?;
+    if flag_at(marks, c) {
+        Ok(None)
+    } else {
+        told(choose(c, object_count, owners, pendings, dones, fulls, ram))
     }
 }

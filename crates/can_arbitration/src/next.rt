@@ -3,7 +3,8 @@ ghost use Rattle.std.specs.Prelude.{[]};
 ghost use Rattle.rules.specs.Calls as rules;
 ghost use Rattle.rules.specs.Can.{can_format};
 ghost use Rattle.rules.specs.Chip.{chip};
-ghost use Rattle.core_answers.specs.Reply.{next_reason, next_answer};
+ghost use Rattle.core_answers.specs.Answer.{verdict_reason};
+ghost use Rattle.core_answers.specs.Reply.{next_answer};
 ghost use Rattle.core_answers.specs.Performed.{Performed};
 ghost use Rattle.can_state.specs.View.{view};
 
@@ -17,7 +18,7 @@ use core_answers::reply::NextReply;
 // Answers the object whose frame goes first, or that nobody sends. It changes nothing and tells of nothing. Any controller may be named.
 pub fn next_to_send(state: State, ram: &[u8], controller: u32) -> NextReply
     ensures { Performed (rules.next_to_send chip can_format (view state) ram.now controller)
-        (next_reason result) (next_answer result) (view state) 0 ram.now [] [] }
+        (verdict_reason result) (next_answer result) (view state) 0 ram.now [] [] }
 {
     let gate = ram_gate(valid(state), ram.len(), RAM_SIZE);
     let marks = state.marks;

@@ -1,5 +1,6 @@
 -- The choice of an arrival's object: one object compared, and a pass over all of them.
 use Prim.Native.Nat.{ℕ, ◌+◌, ◌≤◌, ◌<◌}
+use Rattle.std.specs.Prelude.{None}
 use mathlib.Core.Path.{◌≡◌, refl, ap, ◌∙◌}
 use mathlib.Core.Bool.{Bool, beq, true, false, ◌&&◌, and-true, and-false}
 use mathlib.Core.List.{List}
@@ -11,7 +12,6 @@ use Rattle.rules.specs.Configuration.{settings_at}
 use Rattle.rules.specs.State.{State}
 use Rattle.rules.specs.Events.{fits_frame, best_object}
 use Rattle.rules.specs.Can.{can_format, filter_accepts}
-use Rattle.core_events.specs.declared.pick.Pick.TheVariants.{Nobody}
 use Rattle.core_events.specs.Pick.{view_pick, better_pick}
 use Rattle.core_events.proofs.Picks.{picked, picked_seen, again}
 use Rattle.can_arrivals.specs.declared.choice.Choice.{Choice}
@@ -57,7 +57,7 @@ seen c identifier {count} {owners} {receivings} {fulls} {payloads} {codes} {mask
     rw (f.owned.controller_is h, f.owned.kind_is h, f.codes_are h, f.masks_are h, f.payloads_are h, f.fulls_are h)
 
 module _ {c identifier count : ℕ} {owners : List ℕ} {receivings fulls : List Bool} {payloads codes masks : List ℕ} where
-  pub choice_begins : Choosing c identifier count owners receivings fulls payloads codes masks (record { empty = Nobody; full = Nobody }) 0
+  pub choice_begins : Choosing c identifier count owners receivings fulls payloads codes masks (record { empty = None; full = None }) 0
   unfolding best_below
   choice_begins = record { within = omega arith; empty_so = λ s f. refl; full_so = λ s f. refl }
 

@@ -5,13 +5,13 @@ ghost use Rattle.rules.specs.Can.{can_format, filter_accepts};
 ghost use Rattle.can_arrivals.specs.Choice.{Filtered, Compared, Chosen};
 
 use can_frame::filter::filter_accepts;
-use core_events::pick::{Pick, better};
+use core_events::pick::{Picked, better};
 
-// The best object so far among the empty ones, and among the full ones.
+// The best object so far among the empty ones, and among the full ones, where there is one.
 #[derive(Clone, Copy)]
 pub struct Choice {
-    pub empty: Pick,
-    pub full: Pick,
+    pub empty: Option<Picked>,
+    pub full: Option<Picked>,
 }
 
 // All filters rank alike.
@@ -30,17 +30,15 @@ fn compare(
     ensures { Compared object (filter_accepts identifier code mask payload) full best result }
 {
     let accepts = filter_accepts(identifier, code, mask, payload as u32);
-    let empty = best.empty;
-    let taken = best.full;
     if full {
         Choice {
-            empty: empty,
-            full: better(taken, object, accepts, RANK),
+            full: better(best.full, object, accepts, RANK),
+            ..best
         }
     } else {
         Choice {
-            empty: better(empty, object, accepts, RANK),
-            full: taken,
+            empty: better(best.empty, object, accepts, RANK),
+            ..best
         }
     }
 }
@@ -65,8 +63,8 @@ pub fn choose(
         → Chosen s controller (record { identifier = identifier; sdu = sdu }) result }
 {
     let mut best = Choice {
-        empty: Pick::Nobody,
-        full: Pick::Nobody,
+        empty: None,
+        full: None,
     };
     for h in 0..count {
         let own = receivings[h] & (owners[h] as usize == controller);

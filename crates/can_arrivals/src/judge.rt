@@ -18,10 +18,10 @@ pub fn judge_frame(identifier: u32, length: usize) -> Verdict
     let good = identifier_good(identifier);
     let on_wire = is_wire_length(identifier, length);
     if !good {
-        return Verdict::Rejected(Rejection::BadIdentifier);
+        return Err(Rejection::BadIdentifier);
     }
     if !on_wire {
-        return Verdict::Rejected(Rejection::BadLength);
+        return Err(Rejection::BadLength);
     }
-    Verdict::Accepted
+    Ok(())
 }

@@ -6,7 +6,7 @@ ghost use Rattle.rules.specs.Calls as rules;
 ghost use Rattle.rules.specs.Can.{can_format};
 ghost use Rattle.rules.specs.Chip.{chip};
 ghost use Rattle.core_answers.specs.Answer.{verdict_reason};
-ghost use Rattle.core_answers.specs.Reply.{arrival_reason, arrival_answer};
+ghost use Rattle.core_answers.specs.Reply.{arrival_answer};
 ghost use Rattle.core_answers.specs.Performed.{Performed};
 ghost use Rattle.core_places.specs.Arrays.{Alike, controllers_in, mailboxes_in};
 ghost use Rattle.core_places.specs.Held.{Controlled};
@@ -15,9 +15,9 @@ ghost use Rattle.can_arrivals.specs.Lent.{ArrivalRoom};
 
 use crate::judge::judge_frame;
 use crate::received::received;
-use core_answers::reply::ArrivalReply;
-use core_answers::reported::ArrivalReported;
-use core_answers::verdict::{Verdict, then};
+use core_answers::reply::Arrival;
+use core_answers::reported::Reported;
+use core_answers::verdict::Verdict;
 use core_events::on_bus::judge_on_bus;
 use core_places::at::controller_at;
 
@@ -43,7 +43,7 @@ pub fn arrive_lent(
     controller: u32,
     identifier: u32,
     sdu: &[u8],
-) -> ArrivalReported
+) -> Reported<Arrival>
     requires alike { Alike modes.now requests.now marks.now }
     requires owners_len { (length owners.now ≡ chip.objects) × (length receivings.now ≡ chip.objects) × (length pendings.old ≡ chip.objects)
         × Alike pendings.old dones.old fulls.old
@@ -54,7 +54,7 @@ pub fn arrive_lent(
         → Received s object_count owners.now receivings.now pendings.old dones.old fulls.old
         payloads.now paddings.now codes.now masks.now
         → Performed (rules.arrived chip can_format (verdict_reason gate) s ram.old controller (record { identifier = identifier; sdu = sdu.now }))
-        (arrival_reason result.reply) (arrival_answer result.reply)
+        (verdict_reason result.reply) (arrival_answer result.reply)
         (states.with_core s (with_mailboxes s.core (mailboxes_in pendings.new dones.new fulls.new)))
         result.notifications ram.new sheet.old sheet.new }
 {
@@ -63,10 +63,8 @@ pub fn arrive_lent(
     let in_use = c < controller_count;
     let on_bus = judge_on_bus(initialised, in_use, k);
     let frame = judge_frame(identifier, sdu.len());
-    let own = then(on_bus, frame);
-    let verdict = then(gate, own);
-    match verdict {
-        Verdict::Accepted => received(
+    match gate.and(on_bus.and(frame)) {
+        Ok(()) => received(
             c,
             object_count,
             owners,
@@ -83,8 +81,8 @@ pub fn arrive_lent(
             identifier,
             sdu,
         ),
-        Verdict::Rejected(r) => ArrivalReported {
-            reply: ArrivalReply::Rejected(r),
+        Err(r) => Reported {
+            reply: Err(r),
             notifications: 0,
         },
     }

@@ -7,7 +7,8 @@ ghost use Rattle.rules.specs.State as states;
 ghost use Rattle.rules.specs.Calls as rules;
 ghost use Rattle.rules.specs.Can.{can_format, longest_fd};
 ghost use Rattle.rules.specs.Chip.{chip};
-ghost use Rattle.core_answers.specs.Reply.{arrival_reason, arrival_answer};
+ghost use Rattle.core_answers.specs.Answer.{verdict_reason};
+ghost use Rattle.core_answers.specs.Reply.{arrival_answer};
 ghost use Rattle.core_answers.specs.Performed.{Performed};
 ghost use Rattle.core_layout.specs.Sheet.{words_each};
 ghost use Rattle.core_places.specs.Arrays.{Alike, mailboxes_in};
@@ -17,9 +18,9 @@ ghost use Rattle.can_arrivals.specs.Lent.{ArrivalRoom};
 
 use crate::choice::choose;
 use can_layout::object::lay_down;
-use core_answers::reply::ArrivalReply;
-use core_answers::reported::ArrivalReported;
-use core_events::pick::{Pick, filled_mailbox};
+use core_answers::reply::Arrival;
+use core_answers::reported::Reported;
+use core_events::pick::{Picked, filled_mailbox};
 use core_layout::notification::{Notification, put};
 use core_places::store::set_mailbox;
 
@@ -33,42 +34,48 @@ fn store(
     object: u32,
     identifier: u32,
     sdu: &[u8],
-) -> ArrivalReported
+) -> Reported<Arrival>
     requires object_lt_objects { (object < chip.objects) × (object < length pendings.old) × Alike pendings.old dones.old fulls.old }
     requires ram_len { (length ram.old ≡ ram_size chip) × (length sdu.now ≤ longest_fd) }
     ensures { (s : states.State can_format) (sheet : List ℕ)
         → s.core.mailboxes ≡ mailboxes_in pendings.old dones.old fulls.old
         → padding ≡ (settings_at can_format s.settings object).padding
         → Performed (rules.stored chip can_format s ram.old (record { identifier = identifier; sdu = sdu.now }) object)
-        (arrival_reason result.reply) (arrival_answer result.reply)
+        (verdict_reason result.reply) (arrival_answer result.reply)
         (states.with_core s (with_mailboxes s.core (mailboxes_in pendings.new dones.new fulls.new)))
         result.notifications ram.new sheet sheet }
 {
     let h = object as usize;
     lay_down(ram, h, padding, 0, identifier, sdu);
     set_mailbox(pendings, dones, fulls, h, filled_mailbox());
-    ArrivalReported {
-        reply: ArrivalReply::Stored(object),
+    Reported {
+        reply: Ok(Arrival::Stored(object)),
         notifications: 0,
     }
 }
 
 // No empty object took the frame. If a full one fits, the frame is lost, and a runtime error names that object; else it is unwanted.
-fn not_stored(sheet: &mut [u32], full: Pick) -> ArrivalReported
+fn not_stored(sheet: &mut [u32], full: Option<Picked>) -> Reported<Arrival>
     requires { words_each ≤ length sheet.old }
     ensures { (s : states.State can_format) (ram : List ℕ)
         → Performed (rules.not_stored chip can_format s ram (view_pick full))
-        (arrival_reason result.reply) (arrival_answer result.reply) s result.notifications ram sheet.old sheet.new }
+        (verdict_reason result.reply) (arrival_answer result.reply) s result.notifications ram sheet.old sheet.new }
 {
     match full {
-        Pick::Nobody => ArrivalReported {
-            reply: ArrivalReply::Unwanted,
+        None => Reported {
+            reply: Ok(Arrival::Unwanted),
             notifications: 0,
         },
-        Pick::Object { number, rank: _ } => {
-            put(sheet, 0, Notification::DataLost { object: number });
-            ArrivalReported {
-                reply: ArrivalReply::Lost,
+        Some(best) => {
+            put(
+                sheet,
+                0,
+                Notification::DataLost {
+                    object: best.number,
+                },
+            );
+            Reported {
+                reply: Ok(Arrival::Lost),
                 notifications: 1,
             }
         }
@@ -92,7 +99,7 @@ pub fn received(
     sheet: &mut [u32],
     identifier: u32,
     sdu: &[u8],
-) -> ArrivalReported
+) -> Reported<Arrival>
     requires owners_len { (length owners.now ≡ chip.objects) × (length receivings.now ≡ chip.objects) × (length pendings.old ≡ chip.objects)
         × Alike pendings.old dones.old fulls.old
         × (length payloads.now ≡ chip.objects) × (length paddings.now ≡ chip.objects) × (length codes.now ≡ chip.objects) × (length masks.now ≡ chip.objects) }
@@ -103,7 +110,7 @@ pub fn received(
         → Performed
         (rules.received chip can_format s ram.old controller (record { identifier = identifier; sdu = sdu.now })
         (rules.best_object chip can_format s controller (record { identifier = identifier; sdu = sdu.now }) false))
-        (arrival_reason result.reply) (arrival_answer result.reply)
+        (verdict_reason result.reply) (arrival_answer result.reply)
         (states.with_core s (with_mailboxes s.core (mailboxes_in pendings.new dones.new fulls.new)))
         result.notifications ram.new sheet.old sheet.new }
 {
@@ -118,22 +125,17 @@ pub fn received(
         codes,
         masks,
     );
-    let empty = choice.empty;
-    let full = choice.full;
-    match empty {
-        Pick::Object { number, rank: _ } => {
-            let h = number as usize;
-            store(
-                pendings,
-                dones,
-                fulls,
-                paddings[h],
-                ram,
-                number,
-                identifier,
-                sdu,
-            )
-        }
-        Pick::Nobody => not_stored(sheet, full),
+    match choice.empty {
+        Some(best) => store(
+            pendings,
+            dones,
+            fulls,
+            paddings[best.number as usize],
+            ram,
+            best.number,
+            identifier,
+            sdu,
+        ),
+        None => not_stored(sheet, choice.full),
     }
 }

@@ -1,9 +1,8 @@
 -- The answers of all calls in the rules' words.
-use Rattle.std.specs.Prelude.{ℕ}
+use Rattle.std.specs.Prelude.{ℕ, Result, Ok, Err}
 use Rattle.std.proofs.Math.Option.{none, some}
 use Rattle.rules.specs.Outcome as rules
-use Rattle.core_answers.specs.declared.reply.QuestionReply.{QuestionReply}
-use Rattle.core_answers.specs.declared.reply.QuestionReply.TheVariants.{Answered, Rejected}
+use Rattle.core_answers.specs.declared.rejection.Rejection.{Rejection}
 use Rattle.can_calls.specs.declared.answer.Answer.{Answer}
 use Rattle.can_calls.specs.declared.answer.Answer.TheVariants.{Nothing, Mode, ErrorState, RxErrors, TxErrors, TakenBy, Stored, Unwanted, Lost, SendsNext, Nobody}
 
@@ -22,6 +21,6 @@ answer_of (SendsNext h) = rules.sends_next (some h)
 answer_of Nobody = rules.sends_next none
 
 -- the number that a question of a controller is answered with: 0 with a no
-abbrev pub number_told : QuestionReply → ℕ
-number_told (Answered n) = n
-number_told (Rejected r) = 0
+abbrev pub number_told : Result ℕ Rejection → ℕ
+number_told (Ok n) = n
+number_told (Err r) = 0

@@ -3,7 +3,7 @@ ghost use Rattle.std.specs.Prelude.{◌≡◌};
 ghost use Rattle.core_answers.specs.Reply as replies;
 ghost use Rattle.can_calls.specs.Answer.{answer_of, number_told};
 
-use can::{ArrivalReply, NextReply, Question, QuestionReply, WriteReply};
+use can::{Arrival, ArrivalReply, NextReply, Question, QuestionReply, WriteReply};
 
 #[derive(Clone, Copy)]
 pub enum Answer {
@@ -25,8 +25,8 @@ fn number_told(reply: QuestionReply) -> u32
     ensures { result ≡ number_told reply }
 {
     match reply {
-        QuestionReply::Answered(n) => n as u32,
-        QuestionReply::Rejected(_) => 0,
+        Ok(n) => n as u32,
+        Err(_) => 0,
     }
 }
 
@@ -46,8 +46,8 @@ pub fn write_answer(reply: WriteReply) -> Answer
     ensures { answer_of result ≡ replies.write_answer reply }
 {
     match reply {
-        WriteReply::TakenBy(h) => Answer::TakenBy(h),
-        WriteReply::Rejected(_) => Answer::Nothing,
+        Ok(h) => Answer::TakenBy(h),
+        Err(_) => Answer::Nothing,
     }
 }
 
@@ -55,10 +55,10 @@ pub fn arrival_answer(reply: ArrivalReply) -> Answer
     ensures { answer_of result ≡ replies.arrival_answer reply }
 {
     match reply {
-        ArrivalReply::Stored(h) => Answer::Stored(h),
-        ArrivalReply::Unwanted => Answer::Unwanted,
-        ArrivalReply::Lost => Answer::Lost,
-        ArrivalReply::Rejected(_) => Answer::Nothing,
+        Ok(Arrival::Stored(h)) => Answer::Stored(h),
+        Ok(Arrival::Unwanted) => Answer::Unwanted,
+        Ok(Arrival::Lost) => Answer::Lost,
+        Err(_) => Answer::Nothing,
     }
 }
 
@@ -66,8 +66,8 @@ pub fn next_answer(reply: NextReply) -> Answer
     ensures { answer_of result ≡ replies.next_answer reply }
 {
     match reply {
-        NextReply::Next(h) => Answer::SendsNext(h),
-        NextReply::Nobody => Answer::Nobody,
-        NextReply::Rejected(_) => Answer::Nothing,
+        Ok(Some(h)) => Answer::SendsNext(h),
+        Ok(None) => Answer::Nobody,
+        Err(_) => Answer::Nothing,
     }
 }

@@ -6,13 +6,13 @@ ghost use Rattle.rules.specs.Chip.{chip};
 ghost use Rattle.can_state.specs.View.{view};
 ghost use Rattle.core_answers.specs.Answer.{verdict_reason};
 ghost use Rattle.core_answers.specs.Performed.{Performed};
-ghost use Rattle.core_answers.specs.Reply.{question_of, question_reason, question_answer};
+ghost use Rattle.core_answers.specs.Reply.{question_of, question_answer};
 ghost use Rattle.can_calls.specs.Answer.{answer_of};
 ghost use Rattle.can_calls.specs.Request.{handle, frame, outcome, kind, SERVICE, POLL, EVENT};
 
 use crate::answer::{Answer, arrival_answer, next_answer, question_answer, write_answer};
 use crate::request::{Function, Request};
-use can::{Asked, Called, Question, State, Verdict};
+use can::{Called, Question, State, Verdict};
 
 // What came of a call.
 #[derive(Clone, Copy)]
@@ -23,24 +23,35 @@ pub struct Played {
     pub notifications: usize,
 }
 
-// A call that answers a verdict alone.
-fn with_verdict(called: Called) -> Played
-    ensures { result ≡ record { state = called.state; verdict = called.verdict; answer = Answer.Nothing; notifications = called.notifications } }
+// What came of a call that answers this.
+fn played<T: Copy>(called: Called<T>, answer: Answer) -> Played
+    ensures { (result.state ≡ called.state) × (verdict_reason result.verdict ≡ verdict_reason called.reply) × (result.answer ≡ answer)
+        × (result.notifications ≡ called.notifications) }
 {
-    let state = called.state;
-    let verdict = called.verdict;
     Played {
-        state: state,
-        verdict: verdict,
+        state: called.state,
+        verdict: can::verdict(called.reply),
+        answer,
+        notifications: called.notifications,
+    }
+}
+
+// A call that answers a verdict alone.
+fn with_verdict(called: Called<()>) -> Played
+    ensures { result ≡ record { state = called.state; verdict = called.reply; answer = Answer.Nothing; notifications = called.notifications } }
+{
+    Played {
+        state: called.state,
+        verdict: called.reply,
         answer: Answer::Nothing,
         notifications: called.notifications,
     }
 }
 
 // A question of a controller, which takes no memory.
-fn ask(state: State, sheet: &mut [u32], question: Question, controller: u32) -> Asked
+fn ask(state: State, sheet: &mut [u32], question: Question, controller: u32) -> Called<u8>
     ensures { Performed (rules.ask_controller chip can_format (question_of question) (view state) (length sheet.old) [] controller)
-        (question_reason result.reply) (question_answer question result.reply) (view result.state) result.notifications [] sheet.old sheet.new }
+        (verdict_reason result.reply) (question_answer question result.reply) (view result.state) result.notifications [] sheet.old sheet.new }
 {
     match question {
         Question::Mode => can::get_controller_mode(state, sheet, controller),
@@ -56,16 +67,7 @@ fn get(state: State, sheet: &mut [u32], question: Question, controller: u32) -> 
         (verdict_reason result.verdict) (answer_of result.answer) (view result.state) result.notifications [] sheet.old sheet.new }
 {
     let asked = ask(state, sheet, question, controller);
-    let next = asked.state;
-    let reply = asked.reply;
-    let verdict = can::question_verdict(reply);
-    let answer = question_answer(question, reply);
-    Played {
-        state: next,
-        verdict: verdict,
-        answer: answer,
-        notifications: asked.notifications,
-    }
+    played(asked, question_answer(question, asked.reply))
 }
 
 // Write.
@@ -85,16 +87,7 @@ fn write(state: State, ram: &mut [u8], sheet: &mut [u32], data: &[u8], request: 
         request.identifier,
         data,
     );
-    let next = written.state;
-    let reply = written.reply;
-    let verdict = can::write_verdict(reply);
-    let answer = write_answer(reply);
-    Played {
-        state: next,
-        verdict: verdict,
-        answer: answer,
-        notifications: written.notifications,
-    }
+    played(written, write_answer(written.reply))
 }
 
 // Arrived.
@@ -112,16 +105,7 @@ fn arrived(state: State, ram: &mut [u8], sheet: &mut [u32], data: &[u8], request
         request.identifier,
         data,
     );
-    let next = arrived.state;
-    let reply = arrived.reply;
-    let verdict = can::arrival_verdict(reply);
-    let answer = arrival_answer(reply);
-    Played {
-        state: next,
-        verdict: verdict,
-        answer: answer,
-        notifications: arrived.notifications,
-    }
+    played(arrived, arrival_answer(arrived.reply))
 }
 
 // Who sends next, which changes nothing.
@@ -130,12 +114,10 @@ fn next(state: State, ram: &[u8], controller: u32) -> Played
         (verdict_reason result.verdict) (answer_of result.answer) (view result.state) result.notifications ram.now [] [] }
 {
     let reply = can::next_to_send(state, ram, controller);
-    let verdict = can::next_verdict(reply);
-    let answer = next_answer(reply);
     Played {
-        state: state,
-        verdict: verdict,
-        answer: answer,
+        state,
+        verdict: can::verdict(reply),
+        answer: next_answer(reply),
         notifications: 0,
     }
 }

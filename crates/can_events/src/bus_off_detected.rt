@@ -14,9 +14,9 @@ use can_state::validity::valid;
 use core_answers::gate::state_gate;
 
 // Marks the controller as off the bus; its mode stays until the bus-off poll. Any number may be named.
-pub fn bus_off_detected(state: State, controller: u32) -> Called
+pub fn bus_off_detected(state: State, controller: u32) -> Called<()>
     ensures { Performed (rules.bus_off_detected chip can_format (view state) [] controller)
-        (verdict_reason result.verdict) no_answer (view result.state) result.notifications [] [] [] }
+        (verdict_reason result.reply) no_answer (view result.state) result.notifications [] [] [] }
 {
     let gate = state_gate(valid(state));
     let mut modes = state.modes;
@@ -37,7 +37,7 @@ pub fn bus_off_detected(state: State, controller: u32) -> Called
     next.marks = marks;
     Called {
         state: next,
-        verdict: verdict,
+        reply: verdict,
         notifications: 0,
     }
 }

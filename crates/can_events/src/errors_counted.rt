@@ -22,9 +22,9 @@ pub fn errors_counted(
     controller: u32,
     transmit: u32,
     receive: u32,
-) -> Called
+) -> Called<()>
     ensures { Performed (rules.errors_counted chip can_format (view state) (length sheet.old) [] controller transmit receive)
-        (verdict_reason result.verdict) no_answer (view result.state) result.notifications [] sheet.old sheet.new }
+        (verdict_reason result.reply) no_answer (view result.state) result.notifications [] sheet.old sheet.new }
 {
     let gate = sheet_gate(valid(state), sheet.len(), SHEET_SIZE);
     let mut modes = state.modes;
@@ -55,10 +55,9 @@ pub fn errors_counted(
     next.recoverings = recoverings;
     next.tx_errors = tx_errors;
     next.rx_errors = rx_errors;
-    let verdict = reported.verdict;
     Called {
         state: next,
-        verdict: verdict,
+        reply: reported.reply,
         notifications: reported.notifications,
     }
 }

@@ -14,9 +14,9 @@ use can_state::validity::valid;
 use core_answers::gate::state_gate;
 
 // Marks the object as sent, so that the next write poll confirms it. Any number may be named.
-pub fn tx_complete(state: State, object: u32) -> Called
+pub fn tx_complete(state: State, object: u32) -> Called<()>
     ensures { Performed (rules.tx_complete chip can_format (view state) [] object)
-        (verdict_reason result.verdict) no_answer (view result.state) result.notifications [] [] [] }
+        (verdict_reason result.reply) no_answer (view result.state) result.notifications [] [] [] }
 {
     let gate = state_gate(valid(state));
     let modes = state.modes;
@@ -47,7 +47,7 @@ pub fn tx_complete(state: State, object: u32) -> Called
     next.fulls = fulls;
     Called {
         state: next,
-        verdict: verdict,
+        reply: verdict,
         notifications: 0,
     }
 }

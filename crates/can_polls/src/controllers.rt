@@ -19,12 +19,12 @@ use core_polls::poll::poll_controllers;
 use core_polls::turn::Turn;
 
 // A poll over the controllers: the state with its controllers, their errors, and the mailboxes after the poll.
-fn polled(turn: Turn, state: State, ram: &[u8], sheet: &mut [u32]) -> Called
+fn polled(turn: Turn, state: State, ram: &[u8], sheet: &mut [u32]) -> Called<()>
     ensures { Performed
         (lifted (view state)
         (polls.controllers_polled (full_gate chip can_format (view state) (length sheet.old) ram.now) chip.object_size (turn_of turn)
         (view state).core ram.now))
-        (verdict_reason result.verdict) no_answer (view result.state) result.notifications ram.now sheet.old sheet.new }
+        (verdict_reason result.reply) no_answer (view result.state) result.notifications ram.now sheet.old sheet.new }
 {
     let gate = full_gate(valid(state), sheet.len(), SHEET_SIZE, ram.len(), RAM_SIZE);
     let mut modes = state.modes;
@@ -66,30 +66,29 @@ fn polled(turn: Turn, state: State, ram: &[u8], sheet: &mut [u32]) -> Called
     next.pendings = pendings;
     next.dones = dones;
     next.fulls = fulls;
-    let verdict = reported.verdict;
     Called {
         state: next,
-        verdict: verdict,
+        reply: reported.reply,
         notifications: reported.notifications,
     }
 }
 
 // Mode poll: each controller that is not marked off-bus enters the mode that is requested of it. One that leaves STARTED has its pending
 // objects closed and freed before its mode is told; one that enters STARTED begins without errors.
-pub fn main_function_mode(state: State, ram: &[u8], sheet: &mut [u32]) -> Called
+pub fn main_function_mode(state: State, ram: &[u8], sheet: &mut [u32]) -> Called<()>
     ensures { Performed
         (rules.main_function_mode chip can_format (view state) (length sheet.old) ram.now)
-        (verdict_reason result.verdict) no_answer (view result.state) result.notifications ram.now sheet.old sheet.new }
+        (verdict_reason result.reply) no_answer (view result.state) result.notifications ram.now sheet.old sheet.new }
 {
     polled(Turn::ModeChange, state, ram, sheet)
 }
 
 // Bus-off poll: each marked controller has its pending objects closed and freed, is told of, and is STOPPED; its error state stays bus-off
 // until it is STARTED.
-pub fn main_function_bus_off(state: State, ram: &[u8], sheet: &mut [u32]) -> Called
+pub fn main_function_bus_off(state: State, ram: &[u8], sheet: &mut [u32]) -> Called<()>
     ensures { Performed
         (rules.main_function_bus_off chip can_format (view state) (length sheet.old) ram.now)
-        (verdict_reason result.verdict) no_answer (view result.state) result.notifications ram.now sheet.old sheet.new }
+        (verdict_reason result.reply) no_answer (view result.state) result.notifications ram.now sheet.old sheet.new }
 {
     polled(Turn::GoingOff, state, ram, sheet)
 }

@@ -20,13 +20,13 @@ use core_polls::poll::poll_objects;
 use core_sweeps::visit::Visit;
 
 // A poll over the objects: the state with its mailboxes after the poll.
-fn polled(visit: Visit, state: State, ram: &[u8], sheet: &mut [u32]) -> Called
+fn polled(visit: Visit, state: State, ram: &[u8], sheet: &mut [u32]) -> Called<()>
     ensures { Performed
         (outcomes.lifted (view state)
         (polls.objects_polled (full_gate chip can_format (view state) (length sheet.old) ram.now)
         (visit_of visit chip.object_size false (view state).core.owners ram.now)
         (view state).core ram.now))
-        (verdict_reason result.verdict) no_answer (view result.state) result.notifications ram.now sheet.old sheet.new }
+        (verdict_reason result.reply) no_answer (view result.state) result.notifications ram.now sheet.old sheet.new }
 {
     let gate = full_gate(valid(state), sheet.len(), SHEET_SIZE, ram.len(), RAM_SIZE);
     let owners = state.owners;
@@ -50,28 +50,27 @@ fn polled(visit: Visit, state: State, ram: &[u8], sheet: &mut [u32]) -> Called
     next.pendings = pendings;
     next.dones = dones;
     next.fulls = fulls;
-    let verdict = reported.verdict;
     Called {
         state: next,
-        verdict: verdict,
+        reply: reported.reply,
         notifications: reported.notifications,
     }
 }
 
 // Write poll: each object whose frame was sent is confirmed and freed.
-pub fn main_function_write(state: State, ram: &[u8], sheet: &mut [u32]) -> Called
+pub fn main_function_write(state: State, ram: &[u8], sheet: &mut [u32]) -> Called<()>
     ensures { Performed
         (rules.main_function_write chip can_format (view state) (length sheet.old) ram.now)
-        (verdict_reason result.verdict) no_answer (view result.state) result.notifications ram.now sheet.old sheet.new }
+        (verdict_reason result.reply) no_answer (view result.state) result.notifications ram.now sheet.old sheet.new }
 {
     polled(Visit::Sent, state, ram, sheet)
 }
 
 // Read poll: each object that holds a received frame is indicated and emptied.
-pub fn main_function_read(state: State, ram: &[u8], sheet: &mut [u32]) -> Called
+pub fn main_function_read(state: State, ram: &[u8], sheet: &mut [u32]) -> Called<()>
     ensures { Performed
         (rules.main_function_read chip can_format (view state) (length sheet.old) ram.now)
-        (verdict_reason result.verdict) no_answer (view result.state) result.notifications ram.now sheet.old sheet.new }
+        (verdict_reason result.reply) no_answer (view result.state) result.notifications ram.now sheet.old sheet.new }
 {
     polled(Visit::Received, state, ram, sheet)
 }

@@ -35,9 +35,9 @@ module _ (service : ℕ) (s : State) (ram sheet : List ℕ) (own : ℕ) (next : 
       accepted_performed reason (service_report service) no_answer (view s) ram no_answer next (zero_ram chip can_format) sheet none refl refl state_is
       (cleared ∙ ap (λ (n : ℕ). replicate n 0) whole)
 
-  pub refused_call : {r : Rejection} {c : Called} {after : List ℕ} → reason_of r ≡ reason → Refused service r s c sheet after
-      → Performed outcome (verdict_reason c.verdict) no_answer (view c.state) c.notifications ram sheet after
+  pub refused_call : {r : Rejection} {c : Called (Unit {0})} {after : List ℕ} → reason_of r ≡ reason → Refused service r s c sheet after
+      → Performed outcome (verdict_reason c.reply) no_answer (view c.state) c.notifications ram sheet after
   refused_call {r} found told =
-      rw told.verdict_is
+      rw told.reply_is
       (refused_performed reason (service_report service) no_answer (view s) ram (accepted no_answer next (zero_ram chip can_format) []) found (reason_named r)
       (ap view told.state_is) told.noted)

@@ -14,31 +14,28 @@ use can_state::called::Called;
 use can_state::state::{State, initial_state};
 use can_state::validity::valid;
 use core_answers::gate::full_gate;
-use core_answers::verdict::{Verdict, then};
+use core_answers::verdict::Verdict;
 use core_layout::bytes::clear;
 use core_services::deinit::{judge_deinit, some_started};
 use core_services::number::DEINIT;
 
 // Leaves everything at rest and the memory zero.
-pub fn deinit(state: State, ram: &mut [u8], sheet: &mut [u32]) -> Called
+pub fn deinit(state: State, ram: &mut [u8], sheet: &mut [u32]) -> Called<()>
     ensures { Performed (rules.deinit chip can_format (view state) (length sheet.old) ram.old)
-        (verdict_reason result.verdict) no_answer (view result.state) result.notifications ram.new sheet.old sheet.new }
+        (verdict_reason result.reply) no_answer (view result.state) result.notifications ram.new sheet.old sheet.new }
 {
     let modes = state.modes;
     let started = some_started(&modes, state.controller_count);
-    let own = judge_deinit(state.initialised, started);
     let gate = full_gate(valid(state), sheet.len(), SHEET_SIZE, ram.len(), RAM_SIZE);
-    let verdict = then(gate, own);
-    match verdict {
-        Verdict::Accepted => {
+    match gate.and(judge_deinit(state.initialised, started)) {
+        Ok(()) => {
             clear(ram);
-            let next = initial_state();
             Called {
-                state: next,
-                verdict: Verdict::Accepted,
+                state: initial_state(),
+                reply: Ok(()),
                 notifications: 0,
             }
         }
-        Verdict::Rejected(r) => refused(state, sheet, DEINIT, r),
+        Err(r) => refused(state, sheet, DEINIT, r),
     }
 }

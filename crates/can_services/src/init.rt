@@ -19,7 +19,7 @@ use can_state::state::State;
 use can_state::validity::valid;
 use core_answers::gate::full_gate;
 use core_answers::rejection::Rejection;
-use core_answers::verdict::{Verdict, then};
+use core_answers::verdict::Verdict;
 use core_layout::bytes::clear;
 use core_services::number::INIT;
 
@@ -28,35 +28,31 @@ fn judge_init(initialised: bool, accepted: bool) -> Verdict
     ensures { verdict_reason result ≡ first_reason (init_checks initialised accepted) }
 {
     if initialised {
-        return Verdict::Rejected(Rejection::Transition);
+        return Err(Rejection::Transition);
     }
     if accepted {
-        Verdict::Accepted
+        Ok(())
     } else {
-        Verdict::Rejected(Rejection::InitFailed)
+        Err(Rejection::InitFailed)
     }
 }
 
 // Takes the configuration that the bytes say, and leaves the memory zero.
-pub fn init(state: State, ram: &mut [u8], sheet: &mut [u32], bytes: &[u8]) -> Called
+pub fn init(state: State, ram: &mut [u8], sheet: &mut [u32], bytes: &[u8]) -> Called<()>
     ensures { Performed (rules.init chip can_format (view state) (length sheet.old) ram.old bytes.now)
-        (verdict_reason result.verdict) no_answer (view result.state) result.notifications ram.new sheet.old sheet.new }
+        (verdict_reason result.reply) no_answer (view result.state) result.notifications ram.new sheet.old sheet.new }
 {
     let reading = read(bytes);
-    let own = judge_init(state.initialised, reading.accepted);
     let gate = full_gate(valid(state), sheet.len(), SHEET_SIZE, ram.len(), RAM_SIZE);
-    let verdict = then(gate, own);
-    match verdict {
-        Verdict::Accepted => {
+    match gate.and(judge_init(state.initialised, reading.accepted)) {
+        Ok(()) => {
             clear(ram);
-            let setup = reading.setup;
-            let next = configured_state(setup);
             Called {
-                state: next,
-                verdict: Verdict::Accepted,
+                state: configured_state(reading.setup),
+                reply: Ok(()),
                 notifications: 0,
             }
         }
-        Verdict::Rejected(r) => refused(state, sheet, INIT, r),
+        Err(r) => refused(state, sheet, INIT, r),
     }
 }

@@ -10,14 +10,14 @@ use core_answers::verdict::Verdict;
 use core_services::report::report;
 
 // Reports the reason and hands the state back as it is.
-pub fn refused(state: State, sheet: &mut [u32], service: u32, r: Rejection) -> Called
+pub fn refused(state: State, sheet: &mut [u32], service: u32, r: Rejection) -> Called<()>
     requires { Room (reason_of r) sheet.old }
     ensures { Refused service r state result sheet.old sheet.new }
 {
     let notifications = report(sheet, service, r);
     Called {
-        state: state,
-        verdict: Verdict::Rejected(r),
-        notifications: notifications,
+        state,
+        reply: Err(r),
+        notifications,
     }
 }

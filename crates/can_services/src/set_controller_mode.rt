@@ -15,9 +15,14 @@ use can_state::validity::valid;
 use core_answers::gate::sheet_gate;
 
 // Has a controller in use wait for a mode that is permitted from its present one.
-pub fn set_controller_mode(state: State, sheet: &mut [u32], controller: u32, mode: u32) -> Called
+pub fn set_controller_mode(
+    state: State,
+    sheet: &mut [u32],
+    controller: u32,
+    mode: u32,
+) -> Called<()>
     ensures { Performed (rules.set_controller_mode chip can_format (view state) (length sheet.old) [] controller mode)
-        (verdict_reason result.verdict) no_answer (view result.state) result.notifications [] sheet.old sheet.new }
+        (verdict_reason result.reply) no_answer (view result.state) result.notifications [] sheet.old sheet.new }
 {
     let gate = sheet_gate(valid(state), sheet.len(), SHEET_SIZE);
     let mut modes = state.modes;
@@ -38,10 +43,9 @@ pub fn set_controller_mode(state: State, sheet: &mut [u32], controller: u32, mod
     next.modes = modes;
     next.requests = requests;
     next.marks = marks;
-    let verdict = reported.verdict;
     Called {
         state: next,
-        verdict: verdict,
+        reply: reported.reply,
         notifications: reported.notifications,
     }
 }

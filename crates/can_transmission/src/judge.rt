@@ -18,11 +18,11 @@ pub fn judge_frame(s: Settings, identifier: u32, sdu: &[u8]) -> Verdict
     let fits = length_fits(s.payload as u32, identifier, sdu.len());
     let good = identifier_good(identifier);
     if !fits {
-        return Verdict::Rejected(Rejection::ParamDataLength);
+        return Err(Rejection::ParamDataLength);
     }
     if good {
-        Verdict::Accepted
+        Ok(())
     } else {
-        Verdict::Rejected(Rejection::BadIdentifier)
+        Err(Rejection::BadIdentifier)
     }
 }

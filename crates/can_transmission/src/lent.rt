@@ -6,7 +6,7 @@ ghost use Rattle.rules.specs.Calls.{written};
 ghost use Rattle.rules.specs.Can.{can_format};
 ghost use Rattle.rules.specs.Chip.{chip};
 ghost use Rattle.core_answers.specs.Answer.{verdict_reason};
-ghost use Rattle.core_answers.specs.Reply.{write_reason, write_answer};
+ghost use Rattle.core_answers.specs.Reply.{write_answer};
 ghost use Rattle.core_answers.specs.Performed.{Performed};
 ghost use Rattle.core_places.specs.Arrays.{Alike, controllers_in, mailboxes_in};
 ghost use Rattle.core_places.specs.Held.{Held};
@@ -20,7 +20,7 @@ use crate::judge::judge_frame;
 use can_layout::object::lay_down;
 use can_state::settings::Settings;
 use core_answers::reply::WriteReply;
-use core_answers::reported::WriteReported;
+use core_answers::reported::Reported;
 use core_answers::verdict::Verdict;
 use core_places::at::number_at;
 use core_services::number::WRITE;
@@ -49,7 +49,7 @@ pub fn write_lent(
     handle: u16,
     identifier: u32,
     sdu: &[u8],
-) -> WriteReported
+) -> Reported<u32>
     requires alike { Alike modes.now requests.now marks.now × Alike pools.now receivings.now pendings.old
         × Alike pendings.old dones.old fulls.old × (length pendings.old ≡ chip.objects) × (length owners.now ≡ chip.objects) }
     requires room { Room (verdict_reason gate) sheet.old × (verdict_reason gate ≡ 0 → WriteRoom object_count ram.old) }
@@ -61,7 +61,7 @@ pub fn write_lent(
         → view_settings settings ≡ settings_at can_format s.settings object
         → Padded s paddings.now
         → Performed (written chip can_format (verdict_reason gate) s ram.old object handle (record { identifier = identifier; sdu = sdu.now }))
-        (write_reason result.reply) (write_answer result.reply)
+        (verdict_reason result.reply) (write_answer result.reply)
         (rules.with_core s (with_mailboxes s.core (mailboxes_in pendings.new dones.new fulls.new)))
         result.notifications ram.new sheet.old sheet.new }
 {
@@ -83,19 +83,19 @@ pub fn write_lent(
         object,
     );
     match reply {
-        WriteReply::TakenBy(member) => {
+        Ok(member) => {
             let padding = number_at(paddings, member as usize);
             lay_down(ram, member as usize, padding, handle, identifier, sdu);
-            WriteReported {
-                reply: WriteReply::TakenBy(member),
+            Reported {
+                reply: Ok(member),
                 notifications: 0,
             }
         }
-        WriteReply::Rejected(r) => {
+        Err(r) => {
             let notifications = report(sheet, WRITE, r);
-            WriteReported {
-                reply: WriteReply::Rejected(r),
-                notifications: notifications,
+            Reported {
+                reply: Err(r),
+                notifications,
             }
         }
     }

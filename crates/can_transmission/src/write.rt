@@ -3,13 +3,14 @@ ghost use Rattle.std.specs.Prelude.{length};
 ghost use Rattle.rules.specs.Calls as rules;
 ghost use Rattle.rules.specs.Can.{can_format};
 ghost use Rattle.rules.specs.Chip.{chip};
-ghost use Rattle.core_answers.specs.Reply.{write_reason, write_answer};
+ghost use Rattle.core_answers.specs.Answer.{verdict_reason};
+ghost use Rattle.core_answers.specs.Reply.{write_answer};
 ghost use Rattle.core_answers.specs.Performed.{Performed};
 ghost use Rattle.can_state.specs.View.{view};
 
 use crate::lent::write_lent;
 use can_chip::{RAM_SIZE, SHEET_SIZE};
-use can_state::called::Written;
+use can_state::called::Called;
 use can_state::settings::settings_at;
 use can_state::state::State;
 use can_state::validity::valid;
@@ -24,11 +25,11 @@ pub fn write(
     handle: u16,
     identifier: u32,
     sdu: &[u8],
-) -> Written
+) -> Called<u32>
     ensures { Performed
         (rules.write chip can_format (view state) (length sheet.old) ram.old object handle
         (record { identifier = identifier; sdu = sdu.now }))
-        (write_reason result.reply) (write_answer result.reply) (view result.state) result.notifications ram.new sheet.old sheet.new }
+        (verdict_reason result.reply) (write_answer result.reply) (view result.state) result.notifications ram.new sheet.old sheet.new }
 {
     let gate = full_gate(valid(state), sheet.len(), SHEET_SIZE, ram.len(), RAM_SIZE);
     let payloads = state.payloads;
@@ -71,10 +72,9 @@ pub fn write(
     next.pendings = pendings;
     next.dones = dones;
     next.fulls = fulls;
-    let reply = reported.reply;
-    Written {
+    Called {
         state: next,
-        reply: reply,
+        reply: reported.reply,
         notifications: reported.notifications,
     }
 }

@@ -52,11 +52,11 @@ fn write_lent(
         masks,
     );
     if !said {
-        return ConfigReply::Rejected(Rejection::InitFailed);
+        return Err(Rejection::InitFailed);
     }
     let size = HEADER_SIZE + RECORD_SIZE * object_count;
     if buffer.len() < size {
-        return ConfigReply::Rejected(Rejection::SheetTooShort);
+        return Err(Rejection::SheetTooShort);
     }
     put_header(buffer, version, controller_count, object_count);
     put_records(
@@ -71,7 +71,7 @@ fn write_lent(
         masks,
         object_count,
     );
-    ConfigReply::Written(size)
+    Ok(size)
 }
 
 // Writes a configuration as bytes of the version at the buffer's beginning, and answers how many they are. Where the version cannot say it, or

@@ -2,7 +2,7 @@
 use Prim.Native.Nat.{ℕ}
 use Rattle.std.specs.Prelude.{Result, Ok, Err}
 use Rattle.std.specs.Result.{result_and}
-use mathlib.Core.Path.{◌≡◌, refl, sym, ◌∙◌}
+use mathlib.Core.Path.{◌≡◌, refl, sym, ap, ap₂, ◌∙◌}
 use mathlib.Core.Bool.{false}
 use mathlib.Core.List.{List, []}
 use lib.Dec.{eqb}
@@ -38,6 +38,11 @@ reason_named ErrorCountTooLarge = refl
 pub and_reason : {T : Type 0} (first : Result (Unit {0}) Rejection) (second : Result T Rejection) → verdict_reason (result_and first second) ≡ (verdict_reason first then verdict_reason second)
 and_reason (Ok x) second = refl
 and_reason (Err r) second = rw (reason_named r)
+
+-- a verdict behind another: its reason is the first's, or else its own
+pub behind : {T : Type 0} (first : Result (Unit {0}) Rejection) (second : Result T Rejection) {both : Result T Rejection} {a b : ℕ} → both ≡ result_and first second
+    → verdict_reason first ≡ a → verdict_reason second ≡ b → verdict_reason both ≡ (a then b)
+behind first second e f g = ap verdict_reason e ∙ and_reason first second ∙ ap₂ (λ (a b : ℕ). a then b) f g
 
 -- nothing is written
 pub noted_none : (sheet : List ℕ) → Noted [] sheet sheet 0

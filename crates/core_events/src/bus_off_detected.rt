@@ -10,7 +10,7 @@ ghost use Rattle.core_answers.specs.Answer.{verdict_reason};
 ghost use Rattle.core_answers.specs.Performed.{Performed};
 
 use crate::on_bus::judge_on_bus;
-use core_answers::verdict::{Verdict, then};
+use core_answers::verdict::Verdict;
 use core_places::at::controller_at;
 use core_places::controller::Controller;
 use core_places::store::set_controller;
@@ -45,12 +45,7 @@ pub fn bus_off_detected(
     let c = controller as usize;
     let k = controller_at(modes, requests, marks, c);
     let in_use = c < count;
-    let verdict = then(gate, judge_on_bus(initialised, in_use, k));
-    match verdict {
-        Verdict::Accepted => {
-            set_controller(modes, requests, marks, c, marked_bus_off(k));
-            Verdict::Accepted
-        }
-        Verdict::Rejected(r) => Verdict::Rejected(r),
-    }
+    gate.and(judge_on_bus(initialised, in_use, k))?;
+    set_controller(modes, requests, marks, c, marked_bus_off(k));
+    Ok(())
 }

@@ -22,9 +22,9 @@ pub fn judge_counts(tx: u32, rx: u32) -> Verdict
     ensures { verdict_reason result ≡ first_reason (ERROR_COUNT_TOO_LARGE if not (within_limit tx rx) ∷ []) }
 {
     if within_limit(tx, rx) {
-        Verdict::Accepted
+        Ok(())
     } else {
-        Verdict::Rejected(Rejection::ErrorCountTooLarge)
+        Err(Rejection::ErrorCountTooLarge)
     }
 }
 

@@ -12,7 +12,7 @@ ghost use Rattle.core_events.specs.Counted.{CountRoom};
 use crate::counted::{counted_controller, counted_errors, judge_counts, report_passive};
 use crate::on_bus::judge_on_bus;
 use core_answers::reported::Reported;
-use core_answers::verdict::{Verdict, then};
+use core_answers::verdict::Verdict;
 use core_places::at::{controller_at, errors_at};
 use core_places::store::{set_controller, set_errors};
 
@@ -32,13 +32,13 @@ pub fn errors_counted(
     controller: u32,
     transmit: u32,
     receive: u32,
-) -> Reported
+) -> Reported<()>
     requires { Alike modes.old requests.old marks.old × Alike recoverings.old tx_errors.old rx_errors.old
         × (verdict_reason gate ≡ 0 → CountRoom count modes.old recoverings.old sheet.old) }
     ensures { (core : Core) (ram : List ℕ)
         → Controlled core initialised count (controllers_in modes.old requests.old marks.old)
         → core.errors ≡ errors_in recoverings.old tx_errors.old rx_errors.old
-        → Performed (rules.errors_counted (verdict_reason gate) core ram controller transmit receive) (verdict_reason result.verdict) no_answer
+        → Performed (rules.errors_counted (verdict_reason gate) core ram controller transmit receive) (verdict_reason result.reply) no_answer
         (with_errors (with_controllers core (controllers_in modes.new requests.new marks.new))
         (errors_in recoverings.new tx_errors.new rx_errors.new))
         result.notifications ram sheet.old sheet.new }
@@ -47,13 +47,9 @@ pub fn errors_counted(
     let k = controller_at(modes, requests, marks, c);
     let e = errors_at(recoverings, tx_errors, rx_errors, c);
     let in_use = c < count;
-    let own = then(
-        judge_on_bus(initialised, in_use, k),
-        judge_counts(transmit, receive),
-    );
-    let verdict = then(gate, own);
-    match verdict {
-        Verdict::Accepted => {
+    let own = judge_on_bus(initialised, in_use, k).and(judge_counts(transmit, receive));
+    match gate.and(own) {
+        Ok(()) => {
             let notifications = report_passive(sheet, controller, transmit, receive, k, e);
             set_controller(modes, requests, marks, c, counted_controller(transmit, k));
             set_errors(
@@ -64,12 +60,12 @@ pub fn errors_counted(
                 counted_errors(transmit, receive, e),
             );
             Reported {
-                verdict: Verdict::Accepted,
-                notifications: notifications,
+                reply: Ok(()),
+                notifications,
             }
         }
-        Verdict::Rejected(r) => Reported {
-            verdict: Verdict::Rejected(r),
+        Err(r) => Reported {
+            reply: Err(r),
             notifications: 0,
         },
     }

@@ -5,7 +5,7 @@ ghost use Rattle.core_places.specs.View.{view_mailbox};
 ghost use Rattle.core_events.specs.Pick.{view_pick};
 ghost use Rattle.core_events.specs.Next.{Told};
 
-use crate::pick::Pick;
+use crate::pick::Picked;
 use core_answers::reply::NextReply;
 use core_places::mailbox::Mailbox;
 
@@ -17,11 +17,11 @@ pub fn competes(owner: u8, controller: usize, m: Mailbox) -> bool
 }
 
 // The object picked, or that nobody waits.
-pub fn told(best: Pick) -> NextReply
+pub fn told(best: Option<Picked>) -> NextReply
     ensures { Told (view_pick best) result }
 {
     match best {
-        Pick::Object { number, rank: _ } => NextReply::Next(number),
-        Pick::Nobody => NextReply::Nobody,
+        Some(best) => Ok(Some(best.number)),
+        None => Ok(None),
     }
 }

@@ -14,16 +14,16 @@ pub fn judge_on_bus(initialised: bool, in_use: bool, k: Controller) -> Verdict
     ensures { verdict_reason result ≡ first_reason (on_bus_checks initialised in_use (view_controller k)) }
 {
     if !initialised {
-        return Verdict::Rejected(Rejection::Uninit);
+        return Err(Rejection::Uninit);
     }
     if !in_use {
-        return Verdict::Rejected(Rejection::ParamController);
+        return Err(Rejection::ParamController);
     }
     if k.mode != STARTED {
-        return Verdict::Rejected(Rejection::NotStarted);
+        return Err(Rejection::NotStarted);
     }
     if k.bus_off {
-        return Verdict::Rejected(Rejection::BusOff);
+        return Err(Rejection::BusOff);
     }
-    Verdict::Accepted
+    Ok(())
 }

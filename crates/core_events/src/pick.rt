@@ -7,36 +7,30 @@ ghost use Rattle.core_events.specs.Pick.{outranks, better_pick};
 
 use core_places::mailbox::Mailbox;
 
-// The object picked so far, and its rank.
+// The object picked so far, where there is one, and its rank.
 #[derive(Clone, Copy)]
-pub enum Pick {
-    Nobody,
-    Object { number: u32, rank: u32 },
+pub struct Picked {
+    pub number: u32,
+    pub rank: u32,
 }
 
 // Whether an object of this rank goes before the best so far: among equals the first one stays.
-fn outranks(rank: u32, best: Pick) -> bool
+fn outranks(rank: u32, best: Option<Picked>) -> bool
     ensures { result ≡ outranks rank best }
 {
     match best {
-        Pick::Nobody => true,
-        Pick::Object {
-            number: _,
-            rank: best_rank,
-        } => best_rank < rank,
+        None => true,
+        Some(best) => best.rank < rank,
     }
 }
 
 // An object against the best so far: it must fit, and outrank the best.
-pub fn better(best: Pick, number: u32, fits: bool, rank: u32) -> Pick
+pub fn better(best: Option<Picked>, number: u32, fits: bool, rank: u32) -> Option<Picked>
     ensures { result ≡ better_pick number fits rank best }
 {
     let outranks = outranks(rank, best);
     if fits & outranks {
-        Pick::Object {
-            number: number,
-            rank: rank,
-        }
+        Some(Picked { number, rank })
     } else {
         best
     }

@@ -12,7 +12,7 @@ ghost use Rattle.core_answers.specs.Performed.{Performed};
 ghost use Rattle.core_events.specs.Checks.{sent_checks};
 
 use core_answers::rejection::Rejection;
-use core_answers::verdict::{Verdict, then};
+use core_answers::verdict::Verdict;
 use core_places::at::{controller_at, flag_at, mailbox_at, number_at};
 use core_places::controller::Controller;
 use core_places::mailbox::Mailbox;
@@ -25,18 +25,18 @@ pub fn judge_sent(initialised: bool, sending: bool, m: Mailbox, k: Controller) -
 {
     let unsent = m.tx_pending & !m.tx_done;
     if !initialised {
-        return Verdict::Rejected(Rejection::Uninit);
+        return Err(Rejection::Uninit);
     }
     if !sending {
-        return Verdict::Rejected(Rejection::ParamHandle);
+        return Err(Rejection::ParamHandle);
     }
     if !unsent {
-        return Verdict::Rejected(Rejection::NothingToSend);
+        return Err(Rejection::NothingToSend);
     }
     if k.bus_off {
-        return Verdict::Rejected(Rejection::BusOff);
+        return Err(Rejection::BusOff);
     }
-    Verdict::Accepted
+    Ok(())
 }
 
 // The mailbox of an object whose frame was sent: it stays occupied until its confirmation.
@@ -79,12 +79,7 @@ pub fn tx_complete(
     let k = controller_at(modes, requests, marks, owner as usize);
     let m = mailbox_at(pendings, dones, fulls, h);
     let sending = (h < object_count) & !receiving;
-    let verdict = then(gate, judge_sent(initialised, sending, m, k));
-    match verdict {
-        Verdict::Accepted => {
-            set_mailbox(pendings, dones, fulls, h, sent_mailbox());
-            Verdict::Accepted
-        }
-        Verdict::Rejected(r) => Verdict::Rejected(r),
-    }
+    gate.and(judge_sent(initialised, sending, m, k))?;
+    set_mailbox(pendings, dones, fulls, h, sent_mailbox());
+    Ok(())
 }

@@ -31,28 +31,28 @@ pub fn poll_objects(
     two_bytes: bool,
     ram: &[u8],
     sheet: &mut [u32],
-) -> Reported
+) -> Reported<()>
     requires alike { Alike pendings.old dones.old fulls.old }
     requires object_room { verdict_reason gate ≡ 0 → ObjectRoom size count owners.now pendings.old ram.now sheet.old }
     ensures { (core : Core)
         → Holds core core.controller_count count owners.now core.controllers (mailboxes_in pendings.old dones.old fulls.old)
         → Performed (rules.objects_polled (verdict_reason gate) (visit_of visit size two_bytes core.owners ram.now) core ram.now)
-        (verdict_reason result.verdict) no_answer
+        (verdict_reason result.reply) no_answer
         (with_mailboxes core (mailboxes_in pendings.new dones.new fulls.new))
         result.notifications ram.now sheet.old sheet.new }
 {
     match gate {
-        Verdict::Accepted => {
+        Ok(()) => {
             let told = visit_all(
                 visit, count, owners, pendings, dones, fulls, 0, size, two_bytes, ram, sheet,
             );
             Reported {
-                verdict: gate,
+                reply: gate,
                 notifications: told,
             }
         }
-        Verdict::Rejected(_) => Reported {
-            verdict: gate,
+        Err(_) => Reported {
+            reply: gate,
             notifications: 0,
         },
     }
@@ -77,7 +77,7 @@ pub fn poll_controllers(
     size: usize,
     ram: &[u8],
     sheet: &mut [u32],
-) -> Reported
+) -> Reported<()>
     requires alike { Alike modes.old requests.old marks.old × Alike recoverings.old tx_errors.old rx_errors.old × Alike pendings.old dones.old fulls.old }
     requires total_in_bounds { verdict_reason gate ≡ 0
         → (total ≤ length recoverings.old) × ControllerRoom size total count modes.old owners.now pendings.old ram.now sheet.old }
@@ -87,14 +87,14 @@ pub fn poll_controllers(
         (mailboxes_in pendings.old dones.old fulls.old)
         → core.errors ≡ errors_in recoverings.old tx_errors.old rx_errors.old
         → Performed (rules.controllers_polled (verdict_reason gate) size (turn_of turn) core ram.now)
-        (verdict_reason result.verdict) no_answer
+        (verdict_reason result.reply) no_answer
         (with_errors
         (with_mailboxes (with_controllers core (controllers_in modes.new requests.new marks.new)) (mailboxes_in pendings.new dones.new fulls.new))
         (errors_in recoverings.new tx_errors.new rx_errors.new))
         result.notifications ram.now sheet.old sheet.new }
 {
     match gate {
-        Verdict::Accepted => {
+        Ok(()) => {
             errors_all(
                 turn,
                 total,
@@ -110,12 +110,12 @@ pub fn poll_controllers(
                 ram, sheet,
             );
             Reported {
-                verdict: gate,
+                reply: gate,
                 notifications: told,
             }
         }
-        Verdict::Rejected(_) => Reported {
-            verdict: gate,
+        Err(_) => Reported {
+            reply: gate,
             notifications: 0,
         },
     }

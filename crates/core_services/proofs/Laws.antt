@@ -14,7 +14,7 @@ use Rattle.rules.specs.Mode.{STARTED}
 use Rattle.rules.specs.Repeat.{lowest_or}
 use Rattle.rules.specs.Core.{Controller, Mailbox, Core, controller_at, owner_at, mailbox_at, is_started, controller_of, in_pool, names_pool, free_member}
 use Rattle.rules.specs.Services as rules
-use Rattle.rules.specs.Services.{set_controller_mode_checks, some_started, write_reason}
+use Rattle.rules.specs.Services.{ask_controller_checks, set_controller_mode_checks, some_started, write_reason}
 use Rattle.laws.proofs.Tests.{left, clash}
 use Rattle.laws.proofs.Repeat.{all_below_ext}
 use Rattle.core_layout.specs.Sheet.{words_each}
@@ -46,6 +46,11 @@ room_then gate own {sheet = sheet} room found = rw found (go (eqb gate 0) refl)
     go : (b : Bool) → eqb gate 0 ≡ b → Room (cond b own gate) sheet
     go true e = record { has_room = λ p. room.has_room (rw (eqb-true gate 0 e)) }
     go false e = room
+
+-- what is asked of a controller's number is what the rules ask of it
+pub in_use_read : (c : ℕ) {core : Core} {initialised : Bool} {n : ℕ} {ks : List Controller} → Controlled core initialised n ks
+    → first_reason (in_use_checks initialised (ltb c n)) ≡ first_reason (ask_controller_checks core c)
+in_use_read c held = rw (held.initialised_is, held.count_is)
 
 -- what is asked of a controller that is read is what the rules ask of it
 pub set_read : (c asked : ℕ) {core : Core} {initialised : Bool} {n : ℕ} {ks : List Controller} {k : Controller} → Controlled core initialised n ks → k ≡ controller_at ks c

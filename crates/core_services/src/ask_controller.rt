@@ -6,7 +6,7 @@ ghost use Rattle.core_places.specs.View.{view_controller, view_errors};
 ghost use Rattle.core_places.specs.Arrays.{Alike, controllers_in, errors_in};
 ghost use Rattle.core_places.specs.Held.{Controlled};
 ghost use Rattle.core_answers.specs.Answer.{verdict_reason};
-ghost use Rattle.core_answers.specs.Reply.{question_of, question_reason, question_answer};
+ghost use Rattle.core_answers.specs.Reply.{question_of, question_answer};
 ghost use Rattle.core_answers.specs.Performed.{Performed};
 ghost use Rattle.core_services.specs.Room.{Room};
 
@@ -17,9 +17,8 @@ use crate::number::{
 };
 use crate::report::report;
 use core_answers::question::Question;
-use core_answers::reply::QuestionReply;
-use core_answers::reported::QuestionReported;
-use core_answers::verdict::{Verdict, then};
+use core_answers::reported::Reported;
+use core_answers::verdict::Verdict;
 use core_places::at::{controller_at, errors_at};
 use core_places::controller::Controller;
 use core_places::errors::{Errors, capped, error_state};
@@ -62,29 +61,28 @@ pub fn ask_controller(
     rx_errors: &[u32],
     sheet: &mut [u32],
     controller: u32,
-) -> QuestionReported
+) -> Reported<u8>
     requires { Alike modes.now requests.now marks.now × Alike recoverings.now tx_errors.now rx_errors.now × Room (verdict_reason gate) sheet.old }
     ensures { (core : Core) (ram : List ℕ)
         → Controlled core initialised count (controllers_in modes.now requests.now marks.now)
         → core.errors ≡ errors_in recoverings.now tx_errors.now rx_errors.now
         → Performed (rules.ask_controller (verdict_reason gate) (question_of question) core ram controller)
-        (question_reason result.reply) (question_answer question result.reply) core
+        (verdict_reason result.reply) (question_answer question result.reply) core
         result.notifications ram sheet.old sheet.new }
 {
     let c = controller as usize;
     let k = controller_at(modes, requests, marks, c);
     let e = errors_at(recoverings, tx_errors, rx_errors, c);
-    let verdict = then(gate, judge_in_use(initialised, c, count));
-    match verdict {
-        Verdict::Accepted => QuestionReported {
-            reply: QuestionReply::Answered(answer_to(question, k, e)),
+    match gate.and(judge_in_use(initialised, c, count)) {
+        Ok(()) => Reported {
+            reply: Ok(answer_to(question, k, e)),
             notifications: 0,
         },
-        Verdict::Rejected(r) => {
+        Err(r) => {
             let notifications = report(sheet, service_of(question), r);
-            QuestionReported {
-                reply: QuestionReply::Rejected(r),
-                notifications: notifications,
+            Reported {
+                reply: Err(r),
+                notifications,
             }
         }
     }

@@ -26,8 +26,8 @@ pub fn judge_deinit(initialised: bool, started: bool) -> Verdict
     ensures { verdict_reason result ≡ first_reason (deinit_checks initialised started) }
 {
     if !initialised | started {
-        Verdict::Rejected(Rejection::Transition)
+        Err(Rejection::Transition)
     } else {
-        Verdict::Accepted
+        Ok(())
     }
 }

@@ -12,11 +12,11 @@ pub fn judge_in_use(initialised: bool, c: usize, count: usize) -> Verdict
     ensures { verdict_reason result ≡ first_reason (in_use_checks initialised (ltb c count)) }
 {
     if !initialised {
-        return Verdict::Rejected(Rejection::Uninit);
+        return Err(Rejection::Uninit);
     }
     if c < count {
-        Verdict::Accepted
+        Ok(())
     } else {
-        Verdict::Rejected(Rejection::ParamController)
+        Err(Rejection::ParamController)
     }
 }

@@ -18,7 +18,7 @@ use crate::number::SET_CONTROLLER_MODE;
 use crate::report::report;
 use core_answers::rejection::Rejection;
 use core_answers::reported::Reported;
-use core_answers::verdict::{Verdict, then};
+use core_answers::verdict::Verdict;
 use core_places::at::controller_at;
 use core_places::controller::{Controller, permitted};
 use core_places::store::set_controller;
@@ -28,13 +28,14 @@ pub fn judge_move(k: Controller, asked: u32) -> Verdict
     ensures { verdict_reason result ≡ first_reason (move_checks (view_controller k) asked) }
 {
     if permitted(k.mode, asked) {
-        Verdict::Accepted
+        Ok(())
     } else {
-        Verdict::Rejected(Rejection::Transition)
+        Err(Rejection::Transition)
     }
 }
 
 // All reasons of SetControllerMode: of controller c among the count in use, which is k, and of the mode asked for.
+#[tactic(auto, unfolding(rules::specs::Reason::first_reason))]
 pub fn judge_set_mode(
     initialised: bool,
     c: usize,
@@ -44,7 +45,8 @@ pub fn judge_set_mode(
 ) -> Verdict
     ensures { verdict_reason result ≡ first_reason (in_use_checks initialised (ltb c count) ++ move_checks (view_controller k) asked) }
 {
-    then(judge_in_use(initialised, c, count), judge_move(k, asked))
+    judge_in_use(initialised, c, count)?;
+    judge_move(k, asked)
 }
 
 // The controller with a permitted mode waiting, in place of an earlier one.
@@ -70,32 +72,30 @@ pub fn set_controller_mode(
     sheet: &mut [u32],
     controller: u32,
     asked: u32,
-) -> Reported
+) -> Reported<()>
     requires { Alike modes.old requests.old marks.old × (verdict_reason gate ≡ 0 → count ≤ length modes.old) × Room (verdict_reason gate) sheet.old }
     ensures { (core : Core) (ram : List ℕ)
         → Controlled core initialised count (controllers_in modes.old requests.old marks.old)
         → Performed (rules.set_controller_mode (verdict_reason gate) core ram controller asked)
-        (verdict_reason result.verdict) no_answer
+        (verdict_reason result.reply) no_answer
         (with_controllers core (controllers_in modes.new requests.new marks.new))
         result.notifications ram sheet.old sheet.new }
 {
     let c = controller as usize;
     let k = controller_at(modes, requests, marks, c);
-    let own = judge_set_mode(initialised, c, count, k, asked);
-    let verdict = then(gate, own);
-    match verdict {
-        Verdict::Accepted => {
+    match gate.and(judge_set_mode(initialised, c, count, k, asked)) {
+        Ok(()) => {
             set_controller(modes, requests, marks, c, request_mode(k, asked));
             Reported {
-                verdict: Verdict::Accepted,
+                reply: Ok(()),
                 notifications: 0,
             }
         }
-        Verdict::Rejected(r) => {
+        Err(r) => {
             let notifications = report(sheet, SET_CONTROLLER_MODE, r);
             Reported {
-                verdict: Verdict::Rejected(r),
-                notifications: notifications,
+                reply: Err(r),
+                notifications,
             }
         }
     }

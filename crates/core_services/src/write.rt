@@ -8,14 +8,14 @@ ghost use Rattle.core_places.specs.Arrays.{Alike, controllers_in, mailboxes_in};
 ghost use Rattle.core_places.specs.Held.{Held};
 ghost use Rattle.core_places.specs.Pools.{Pooled};
 ghost use Rattle.core_answers.specs.Answer.{verdict_reason};
-ghost use Rattle.core_answers.specs.Reply.{write_reason, write_answer};
+ghost use Rattle.core_answers.specs.Reply.{write_answer};
 ghost use Rattle.core_services.specs.Checks.{sending_checks, free_checks};
 ghost use Rattle.core_services.specs.WriteTaken.{WriteTaken};
 
 use crate::pool::{free_member, names_pool};
 use core_answers::rejection::Rejection;
 use core_answers::reply::WriteReply;
-use core_answers::verdict::{Verdict, then};
+use core_answers::verdict::Verdict;
 use core_places::at::{controller_at, mailbox_at, number_at};
 use core_places::controller::{Controller, STARTED};
 use core_places::mailbox::Mailbox;
@@ -26,12 +26,12 @@ fn judge_sending(initialised: bool, named: bool) -> Verdict
     ensures { verdict_reason result ≡ first_reason (sending_checks initialised named) }
 {
     if !initialised {
-        return Verdict::Rejected(Rejection::Uninit);
+        return Err(Rejection::Uninit);
     }
     if named {
-        Verdict::Accepted
+        Ok(())
     } else {
-        Verdict::Rejected(Rejection::ParamHandle)
+        Err(Rejection::ParamHandle)
     }
 }
 
@@ -47,16 +47,17 @@ fn judge_free(k: Controller, m: Mailbox) -> Verdict
     ensures { verdict_reason result ≡ first_reason (free_checks (view_controller k) (view_mailbox m)) }
 {
     if k.mode != STARTED {
-        return Verdict::Rejected(Rejection::NotStarted);
+        return Err(Rejection::NotStarted);
     }
     if is_occupied(m) {
-        Verdict::Rejected(Rejection::ObjectBusy)
+        Err(Rejection::ObjectBusy)
     } else {
-        Verdict::Accepted
+        Ok(())
     }
 }
 
 // All reasons of Write to an object: whether it names a pool, the frame, the controller k and the mailbox m of the free member.
+#[tactic(auto, using(core_answers::proofs::Laws::reason_named))]
 pub fn judge_write(
     initialised: bool,
     named: bool,
@@ -67,8 +68,9 @@ pub fn judge_write(
     ensures { verdict_reason result
         ≡ first_reason (sending_checks initialised named) then verdict_reason frame then first_reason (free_checks (view_controller k) (view_mailbox m)) }
 {
-    let sending = judge_sending(initialised, named);
-    then(sending, then(frame, judge_free(k, m)))
+    judge_sending(initialised, named)?;
+    frame?;
+    judge_free(k, m)
 }
 
 // A mailbox in which a written frame waits.
@@ -105,7 +107,7 @@ fn take_open(
         (controllers_in modes.now requests.now marks.now)
         (mailboxes_in pendings.old dones.old fulls.old)
         → Pooled core.owners pools.now
-        → WriteTaken core object 0 (verdict_reason frame) (write_reason result) (write_answer result)
+        → WriteTaken core object 0 (verdict_reason frame) (verdict_reason result) (write_answer result)
         (mailboxes_in pendings.new dones.new fulls.new) }
 {
     let h = object as usize;
@@ -115,14 +117,9 @@ fn take_open(
     let named = names_pool(receivings, pools, object_count, h);
     let member = free_member(receivings, pools, pendings, object_count, pool, h);
     let m = mailbox_at(pendings, dones, fulls, member);
-    let verdict = judge_write(initialised, named, k, m, frame);
-    match verdict {
-        Verdict::Accepted => {
-            set_mailbox(pendings, dones, fulls, member, written_mailbox());
-            WriteReply::TakenBy(member as u32)
-        }
-        Verdict::Rejected(r) => WriteReply::Rejected(r),
-    }
+    judge_write(initialised, named, k, m, frame)?;
+    set_mailbox(pendings, dones, fulls, member, written_mailbox());
+    Ok(member as u32)
 }
 
 // The same behind the gate's verdict: nothing is looked at where the gate refuses. The caller lays the frame down in the object that took it,
@@ -150,25 +147,23 @@ pub fn take_write(
         (controllers_in modes.now requests.now marks.now)
         (mailboxes_in pendings.old dones.old fulls.old)
         → Pooled core.owners pools.now
-        → WriteTaken core object (verdict_reason gate) (verdict_reason frame) (write_reason result) (write_answer result)
+        → WriteTaken core object (verdict_reason gate) (verdict_reason frame) (verdict_reason result) (write_answer result)
         (mailboxes_in pendings.new dones.new fulls.new) }
 {
-    match gate {
-        Verdict::Accepted => take_open(
-            frame,
-            initialised,
-            object_count,
-            modes,
-            requests,
-            marks,
-            owners,
-            receivings,
-            pools,
-            pendings,
-            dones,
-            fulls,
-            object,
-        ),
-        Verdict::Rejected(r) => WriteReply::Rejected(r),
-    }
+    gate?;
+    take_open(
+        frame,
+        initialised,
+        object_count,
+        modes,
+        requests,
+        marks,
+        owners,
+        receivings,
+        pools,
+        pendings,
+        dones,
+        fulls,
+        object,
+    )
 }

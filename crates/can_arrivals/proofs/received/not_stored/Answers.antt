@@ -6,16 +6,16 @@ use Rattle.laws.proofs.Sheets.{sheet_none}
 use Rattle.core_layout.proofs.Placed.{put_first}
 use Rattle.can_arrivals.proofs.received.not_stored.Goals as goal
 
-pub returns-in-Nobody : goal.returns-in-Nobody
+pub returns-in-None : goal.returns-in-None
 unfolding return_code
-returns-in-Nobody c s ram =
+returns-in-None c s ram =
     let sheet = c.args.sheet.now in
-    rw c.in-Nobody.is (record { code_is = refl; reason_is = refl; answer_is = refl; state_is = refl; count_is = refl; ram_is = refl; sheet_is = sym (sheet_none sheet) })
+    rw c.in-None.is (record { code_is = refl; reason_is = refl; answer_is = refl; state_is = refl; count_is = refl; ram_is = refl; sheet_is = sym (sheet_none sheet) })
 
-pub returns-in-Object : goal.returns-in-Object
+pub returns-in-Some : goal.returns-in-Some
 unfolding return_code
-returns-in-Object c s ram =
-    rw c.in-Object.is
+returns-in-Some c s ram =
+    rw c.in-Some.is
     (record {
       code_is = refl;
       reason_is = refl;
@@ -23,5 +23,5 @@ returns-in-Object c s ram =
       state_is = refl;
       count_is = refl;
       ram_is = refl;
-      sheet_is = put_first (data_lost c.in-Object.number) c.args.sheet.now c.put.ensures;
+      sheet_is = put_first (data_lost c.in-Some.best.number) c.args.sheet.now c.put.ensures;
     })

@@ -1,7 +1,7 @@
 -- The gate and the service's own verdict are the rules' reason, since the modes that are read are those of the controllers. Where there is
 -- none the memory has its size and is cleared whole.
 use Prim.Native.Nat.{ℕ}
-use mathlib.Core.Path.{◌≡◌, refl, sym, ap, ap₂, ◌∙◌}
+use mathlib.Core.Path.{◌≡◌, refl, sym, ap, ◌∙◌}
 use mathlib.Core.Bool.{Bool, not}
 use mathlib.Core.List.{List}
 use native.Mathlib.Omega.{arith}
@@ -16,6 +16,7 @@ use Rattle.rules.specs.Services.{DEINIT}
 use Rattle.rules.specs.Can.{can_format}
 use Rattle.rules.specs.Chip.{chip}
 use Rattle.core_answers.specs.Answer.{verdict_reason}
+use Rattle.core_answers.proofs.Laws.{behind}
 use Rattle.core_services.specs.Checks.{deinit_checks}
 use Rattle.core_services.proofs.Laws.{gate_room, room_then, deinit_read}
 use Rattle.can_state.specs.declared.state.State.{State}
@@ -28,39 +29,39 @@ use Rattle.can_services.proofs.deinit.deinit.Goals as goal
 pub refused-requires : goal.refused-requires
 refused-requires c =
     let sheet : List ℕ = c.args.sheet.now in
-    room_then (verdict_reason c.full_gate-gate.result) (verdict_reason c.judge_deinit-own.result)
+    room_then (verdict_reason c.full_gate-gate.result) (verdict_reason c.judge_deinit.result)
     (gate_room (not c.valid.result) (sheet_size chip) sheet _ (omega arith) c.full_gate-gate.ensures)
-    (sym (ap verdict_reason c.in-Rejected.is) ∙ c.then-verdict.ensures)
+    (sym (ap verdict_reason c.in-Err.is) ∙ behind _ _ c.and.ensures refl refl)
 
-pub returns-in-Accepted : goal.returns-in-Accepted
+pub returns-in-Ok : goal.returns-in-Ok
 unfolding deinit
-returns-in-Accepted c =
+returns-in-Ok c =
     let state : State = c.args.state in
     let sheet : List ℕ = c.args.sheet.now in
     let ram : List ℕ = c.args.ram.now in
     let own : ℕ = first_reason (rules.deinit_checks (view state).core) in
-    let own_is : verdict_reason c.judge_deinit-own.result ≡ own = let s = state in
+    let own_is : verdict_reason c.judge_deinit.result ≡ own = let s = state in
     let places = sizes s _ c.well_formed.0 in
-    c.judge_deinit-own.ensures
+    c.judge_deinit.ensures
     ∙ ap (λ (started : Bool). first_reason (deinit_checks s.initialised started)) c.some_started-started.ensures
     ∙ deinit_read {core = (view s).core} s.modes s.requests s.marks (record { second = omega arith; third = omega arith }) (record { initialised_is = refl; count_is = refl; controllers_are = refl }) in
-    let found : verdict_reason c.then-verdict.result ≡ (full_gate chip can_format (view state) (length sheet) ram then own) = let gate = full_gate_is state c.valid.ensures (length sheet) ram c.full_gate-gate.ensures in
-    c.then-verdict.ensures ∙ ap₂ ◌then◌ gate own_is in
-    let none = sym (ap verdict_reason c.in-Accepted.is) ∙ found in
-    accepted_call DEINIT state ram sheet own (initial_state chip can_format) none c.initial_state-next.ensures c.clear.ensures
+    let found : verdict_reason c.and.result ≡ (full_gate chip can_format (view state) (length sheet) ram then own) = let gate = full_gate_is state c.valid.ensures (length sheet) ram c.full_gate-gate.ensures in
+    behind _ _ c.and.ensures gate own_is in
+    let none = sym (ap verdict_reason c.in-Ok.is) ∙ found in
+    accepted_call DEINIT state ram sheet own (initial_state chip can_format) none c.initial_state.ensures c.clear.ensures
 
-pub returns-in-Rejected : goal.returns-in-Rejected
+pub returns-in-Err : goal.returns-in-Err
 unfolding deinit
-returns-in-Rejected c =
+returns-in-Err c =
     let state : State = c.args.state in
     let sheet : List ℕ = c.args.sheet.now in
     let ram : List ℕ = c.args.ram.now in
     let own : ℕ = first_reason (rules.deinit_checks (view state).core) in
-    let own_is : verdict_reason c.judge_deinit-own.result ≡ own = let s = state in
+    let own_is : verdict_reason c.judge_deinit.result ≡ own = let s = state in
     let places = sizes s _ c.well_formed.0 in
-    c.judge_deinit-own.ensures
+    c.judge_deinit.ensures
     ∙ ap (λ (started : Bool). first_reason (deinit_checks s.initialised started)) c.some_started-started.ensures
     ∙ deinit_read {core = (view s).core} s.modes s.requests s.marks (record { second = omega arith; third = omega arith }) (record { initialised_is = refl; count_is = refl; controllers_are = refl }) in
-    let found : verdict_reason c.then-verdict.result ≡ (full_gate chip can_format (view state) (length sheet) ram then own) = let gate = full_gate_is state c.valid.ensures (length sheet) ram c.full_gate-gate.ensures in
-    c.then-verdict.ensures ∙ ap₂ ◌then◌ gate own_is in
-    refused_call DEINIT state ram sheet own _ (sym (ap verdict_reason c.in-Rejected.is) ∙ found) c.refused.ensures
+    let found : verdict_reason c.and.result ≡ (full_gate chip can_format (view state) (length sheet) ram then own) = let gate = full_gate_is state c.valid.ensures (length sheet) ram c.full_gate-gate.ensures in
+    behind _ _ c.and.ensures gate own_is in
+    refused_call DEINIT state ram sheet own _ (sym (ap verdict_reason c.in-Err.is) ∙ found) c.refused.ensures

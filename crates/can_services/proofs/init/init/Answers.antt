@@ -1,7 +1,7 @@
 -- The gate and the service's own verdict are the rules' reason. Where there is none the memory has its size and is cleared whole, and the
 -- setup is what the bytes say.
 use Prim.Native.Nat.{ℕ}
-use mathlib.Core.Path.{◌≡◌, refl, sym, ap, ap₂, ◌∙◌}
+use mathlib.Core.Path.{◌≡◌, refl, sym, ap, ◌∙◌}
 use mathlib.Core.Bool.{Bool, true, not}
 use mathlib.Core.List.{List}
 use native.Mathlib.Omega.{arith}
@@ -18,6 +18,7 @@ use Rattle.rules.specs.Chip.{chip}
 use Rattle.laws.proofs.Tests.{not_false}
 use Rattle.laws.proofs.Reasons.{then_second, check_passed}
 use Rattle.core_answers.specs.Answer.{verdict_reason}
+use Rattle.core_answers.proofs.Laws.{behind}
 use Rattle.core_services.proofs.Laws.{gate_room, room_then}
 use Rattle.can_state.specs.declared.state.State.{State}
 use Rattle.can_state.specs.View.{view}
@@ -30,38 +31,38 @@ use Rattle.can_services.proofs.init.init.Goals as goal
 pub refused-requires : goal.refused-requires
 refused-requires c =
     let sheet : List ℕ = c.args.sheet.now in
-    room_then (verdict_reason c.full_gate-gate.result) (verdict_reason c.judge_init-own.result)
+    room_then (verdict_reason c.full_gate-gate.result) (verdict_reason c.judge_init.result)
     (gate_room (not c.valid.result) (sheet_size chip) sheet _ (omega arith) c.full_gate-gate.ensures)
-    (sym (ap verdict_reason c.in-Rejected.is) ∙ c.then-verdict.ensures)
+    (sym (ap verdict_reason c.in-Err.is) ∙ behind _ _ c.and.ensures refl refl)
 
-pub returns-in-Accepted : goal.returns-in-Accepted
+pub returns-in-Ok : goal.returns-in-Ok
 unfolding init reasons_named
-returns-in-Accepted c =
+returns-in-Ok c =
     let state : State = c.args.state in
     let sheet : List ℕ = c.args.sheet.now in
     let ram : List ℕ = c.args.ram.now in
     let own : ℕ = first_reason (rules.init_checks chip can_format (view state) c.args.bytes.now) in
-    let own_is : verdict_reason c.judge_init-own.result ≡ own = c.judge_init-own.ensures ∙ ap (λ (good : Bool). first_reason (init_checks state.initialised good)) c.read-reading.ensures.accepted in
-    let found : verdict_reason c.then-verdict.result ≡ (full_gate chip can_format (view state) (length sheet) ram then own) = let gate = full_gate_is state c.valid.ensures (length sheet) ram c.full_gate-gate.ensures in
-    c.then-verdict.ensures ∙ ap₂ ◌then◌ gate own_is in
+    let own_is : verdict_reason c.judge_init.result ≡ own = c.judge_init.ensures ∙ ap (λ (good : Bool). first_reason (init_checks state.initialised good)) c.read-reading.ensures.accepted in
+    let found : verdict_reason c.and.result ≡ (full_gate chip can_format (view state) (length sheet) ram then own) = let gate = full_gate_is state c.valid.ensures (length sheet) ram c.full_gate-gate.ensures in
+    behind _ _ c.and.ensures gate own_is in
     let setup_is : 0 ≡ (full_gate chip can_format (view state) (length sheet) ram then own)
     → view_setup c.read-reading.result.setup ≡ configuration_of chip can_format c.args.bytes.now = λ none. let bytes = c.args.bytes.now in
     let mine = then_second (full_gate chip can_format (view state) (length sheet) ram) own (sym none) in
     let good : accepted_bytes chip can_format bytes ≡ true =
     not_false (accepted_bytes chip can_format bytes) (check_passed 1 (rules.init_checks chip can_format (view state) bytes) refl mine) in
     c.read-reading.ensures.setup ∙ rw good in
-    let none = sym (ap verdict_reason c.in-Accepted.is) ∙ found in
+    let none = sym (ap verdict_reason c.in-Ok.is) ∙ found in
     accepted_call INIT state ram sheet own (configured_state chip can_format (configuration_of chip can_format c.args.bytes.now)) none
-    (c.configured_state-next.ensures ∙ ap (λ (cfg : Configuration can_format). configured_state chip can_format cfg) (setup_is none)) c.clear.ensures
+    (c.configured_state.ensures ∙ ap (λ (cfg : Configuration can_format). configured_state chip can_format cfg) (setup_is none)) c.clear.ensures
 
-pub returns-in-Rejected : goal.returns-in-Rejected
+pub returns-in-Err : goal.returns-in-Err
 unfolding init
-returns-in-Rejected c =
+returns-in-Err c =
     let state : State = c.args.state in
     let sheet : List ℕ = c.args.sheet.now in
     let ram : List ℕ = c.args.ram.now in
     let own : ℕ = first_reason (rules.init_checks chip can_format (view state) c.args.bytes.now) in
-    let own_is : verdict_reason c.judge_init-own.result ≡ own = c.judge_init-own.ensures ∙ ap (λ (good : Bool). first_reason (init_checks state.initialised good)) c.read-reading.ensures.accepted in
-    let found : verdict_reason c.then-verdict.result ≡ (full_gate chip can_format (view state) (length sheet) ram then own) = let gate = full_gate_is state c.valid.ensures (length sheet) ram c.full_gate-gate.ensures in
-    c.then-verdict.ensures ∙ ap₂ ◌then◌ gate own_is in
-    refused_call INIT state ram sheet own _ (sym (ap verdict_reason c.in-Rejected.is) ∙ found) c.refused.ensures
+    let own_is : verdict_reason c.judge_init.result ≡ own = c.judge_init.ensures ∙ ap (λ (good : Bool). first_reason (init_checks state.initialised good)) c.read-reading.ensures.accepted in
+    let found : verdict_reason c.and.result ≡ (full_gate chip can_format (view state) (length sheet) ram then own) = let gate = full_gate_is state c.valid.ensures (length sheet) ram c.full_gate-gate.ensures in
+    behind _ _ c.and.ensures gate own_is in
+    refused_call INIT state ram sheet own _ (sym (ap verdict_reason c.in-Err.is) ∙ found) c.refused.ensures

@@ -14,7 +14,7 @@ use Rattle.rules.specs.Can.{Frame, Settings, can_format, write_checks}
 use Rattle.rules.specs.Chip.{chip}
 use Rattle.laws.proofs.Reasons.{then_first, then_second}
 use Rattle.core_answers.specs.Answer.{reason_of, verdict_reason}
-use Rattle.core_answers.specs.Reply.{write_reason, write_answer}
+use Rattle.core_answers.specs.Reply.{write_answer}
 use Rattle.core_answers.proofs.Laws.{reason_named, refused_performed, accepted_performed}
 use Rattle.core_places.specs.Arrays.{Alike, core_in}
 use Rattle.core_places.proofs.Laws.{owned_in, pooled_in}
@@ -40,36 +40,36 @@ report-notifications-requires c =
     (record { initialised_is = refl; count_is = refl; owned = owned_in a.owners.now a.receivings.now a.pools.now alike; controllers_are = refl; mailboxes_are = refl })
     (pooled_in a.owners.now a.receivings.now a.pools.now alike)
     in
-    room_then (verdict_reason a.gate) _ c.requires.room.0 (sym (ap write_reason c.in-Rejected.is) ∙ taken.reason_is)
+    room_then (verdict_reason a.gate) _ c.requires.room.0 (sym (ap verdict_reason c.in-Err.is) ∙ taken.reason_is)
 
-pub returns-in-TakenBy : goal.returns-in-TakenBy
-returns-in-TakenBy c s held pooled es padded =
+pub returns-in-Ok : goal.returns-in-Ok
+returns-in-Ok c s held pooled es padded =
     let a = c.args in
     let gate = verdict_reason a.gate in
     let frame : Frame = record { identifier = a.identifier; sdu = a.sdu.now } in
     let own = settings_at can_format s.settings a.object in
     let judged_so : verdict_reason c.judge_frame-frame.result ≡ first_reason (write_checks own frame) = c.judge_frame-frame.ensures ∙ ap (λ (x : Settings). first_reason (write_checks x frame)) es in
     let wt = c.take_write-reply.ensures s.core held pooled in
-    let none : write_reason c.take_write-reply.result ≡ 0 = ap write_reason c.in-TakenBy.is in
+    let none : verdict_reason c.take_write-reply.result ≡ 0 = ap verdict_reason c.in-Ok.is in
     let found : 0 ≡ (gate then rules.write_reason s.core a.object (first_reason (write_checks own frame))) = sym none ∙ wt.reason_is ∙ rw judged_so in
-    let answered : taken_by c.in-TakenBy.member ≡ taken_by (free_member s.core a.object) = sym (ap write_answer c.in-TakenBy.is) ∙ wt.answer_is ∙ rw none in
-    let member : c.in-TakenBy.member ≡ free_member s.core a.object = same_object answered in
+    let answered : taken_by c.in-Ok.member ≡ taken_by (free_member s.core a.object) = sym (ap write_answer c.in-Ok.is) ∙ wt.answer_is ∙ rw none in
+    let member : c.in-Ok.member ≡ free_member s.core a.object = same_object answered in
     let passed = then_first gate _ (sym found) in
     let few : s.core.object_count ≤ chip.objects = rw held.count_is (c.requires.room.1 passed).objects_fit in
     let room = room_for s.core a.object own frame a.ram.now (then_second gate _ (sym found)) few (c.requires.room.1 passed).ram_whole in
     accepted_performed _ (service_report WRITE) no_answer s a.ram.now (taken_by (free_member s.core a.object)) (with_core s (taken s.core (free_member s.core a.object))) _ a.sheet.now found refl answered
     (rw (wt.mailboxes_are, none))
-    (rw (← member) (laid_whole (settings_at can_format s.settings c.in-TakenBy.member) c.lay_down.ensures (rw member room) (c.number_at-padding.ensures ∙ sym (padded.padding_is c.in-TakenBy.member))))
+    (rw (← member) (laid_whole (settings_at can_format s.settings c.in-Ok.member) c.lay_down.ensures (rw member room) (c.number_at-padding.ensures ∙ sym (padded.padding_is c.in-Ok.member))))
 
-pub returns-in-Rejected : goal.returns-in-Rejected
-returns-in-Rejected c s held pooled es padded =
+pub returns-in-Err : goal.returns-in-Err
+returns-in-Err c s held pooled es padded =
     let a = c.args in
     let frame : Frame = record { identifier = a.identifier; sdu = a.sdu.now } in
     let own = settings_at can_format s.settings a.object in
     let judged_so : verdict_reason c.judge_frame-frame.result ≡ first_reason (write_checks own frame) = c.judge_frame-frame.ensures ∙ ap (λ (x : Settings). first_reason (write_checks x frame)) es in
     let wt = c.take_write-reply.ensures s.core held pooled in
-    let why = c.in-Rejected.r in
-    let reason : write_reason c.take_write-reply.result ≡ reason_of why = ap write_reason c.in-Rejected.is in
+    let why = c.in-Err.r in
+    let reason : verdict_reason c.take_write-reply.result ≡ reason_of why = ap verdict_reason c.in-Err.is in
     let found : reason_of why ≡ (verdict_reason a.gate then rules.write_reason s.core a.object (first_reason (write_checks own frame))) = sym reason ∙ wt.reason_is ∙ rw judged_so in
     refused_performed _ (service_report WRITE) no_answer s a.ram.now _ found (reason_named why)
     (rw (wt.mailboxes_are, reason, reason_named why))

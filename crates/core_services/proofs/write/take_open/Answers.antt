@@ -5,6 +5,7 @@ use mathlib.Core.Path.{◌≡◌, refl, sym, ap, subst, ◌∙◌}
 use mathlib.Core.Bool.{Bool, true}
 use mathlib.Core.List.{List}
 use native.Mathlib.Omega.{arith}
+use Rattle.std.proofs.lemmas.Result.{err_from_is_err_and}
 use Rattle.rules.specs.Repeat.{lowest_or}
 use Rattle.rules.specs.Reason.{Check, first_reason, ◌then◌, reasons_named}
 use Rattle.rules.specs.Core.{Controller, Mailbox, Core, mailbox_at, free_member}
@@ -37,7 +38,7 @@ set_mailbox-requires c =
     let passed : named ≡ true = not_false named (check_passed 1 front refl (then_first (first_reason front) _ none)) in
     let below = member_below a.receivings.now a.pools.now a.object_count a.object _ (sym c.names_pool-named.ensures ∙ passed) in
     subst (λ (m : ℕ). m < a.object_count) (sym c.free_member-member.ensures) below in
-    let none = sym c.judge_write-verdict.ensures ∙ ap verdict_reason c.in-Accepted.is in
+    let none = sym c.judge_write.ensures ∙ ap verdict_reason c.in_ok-judge_write.was in
     let pre = c.requires in
     (omega (arith, member_in_use none, pre.3, pre.1.third), pre.2)
 
@@ -54,12 +55,12 @@ overflow_cast-result c =
     let passed : named ≡ true = not_false named (check_passed 1 front refl (then_first (first_reason front) _ none)) in
     let below = member_below a.receivings.now a.pools.now a.object_count a.object _ (sym c.names_pool-named.ensures ∙ passed) in
     subst (λ (m : ℕ). m < a.object_count) (sym c.free_member-member.ensures) below in
-    let none = sym c.judge_write-verdict.ensures ∙ ap verdict_reason c.in-Accepted.is in
+    let none = sym c.judge_write.ensures ∙ ap verdict_reason c.in_ok-judge_write.was in
     let pre = c.requires in
     record { fits = omega (arith, member_in_use none, pre.3, pre.4) }
 
-pub returns-in-Accepted : goal.returns-in-Accepted
-returns-in-Accepted c core held pooled =
+pub returns : goal.returns
+returns c core held pooled =
     let named : Bool = c.names_pool-named.result in
     let member : ℕ = c.free_member-member.result in
     let controller : Controller = view_controller c.controller_at-k.result in
@@ -80,7 +81,7 @@ returns-in-Accepted c core held pooled =
     c.controller_at-k.ensures)
     (c.mailbox_at-m.ensures ∙ ap (λ (m : ℕ). mailbox_at (mailboxes_in a.pendings.now a.dones.now a.fulls.now) m) (member_is core held pooled)
     ∙ ap (λ (ms : List Mailbox). mailbox_at ms (free_member core a.object)) (sym held.mailboxes_are)) in
-    let none = sym c.judge_write-verdict.ensures ∙ ap verdict_reason c.in-Accepted.is in
+    let none = sym c.judge_write.ensures ∙ ap verdict_reason c.in_ok-judge_write.was in
     let taken = member_is core held pooled in
     record {
       reason_is = sym none ∙ found core held pooled;
@@ -88,8 +89,8 @@ returns-in-Accepted c core held pooled =
       mailboxes_are = mailbox_stored (free_member core c.args.object) held.mailboxes_are c.written_mailbox.ensures (rw (← taken) c.set_mailbox.ensures);
     }
 
-pub returns-in-Rejected : goal.returns-in-Rejected
-returns-in-Rejected c core held pooled =
+pub returns-in_err-judge_write : goal.returns-in_err-judge_write
+returns-in_err-judge_write c core held pooled =
     let named : Bool = c.names_pool-named.result in
     let member : ℕ = c.free_member-member.result in
     let controller : Controller = view_controller c.controller_at-k.result in
@@ -110,8 +111,10 @@ returns-in-Rejected c core held pooled =
     c.controller_at-k.ensures)
     (c.mailbox_at-m.ensures ∙ ap (λ (m : ℕ). mailbox_at (mailboxes_in a.pendings.now a.dones.now a.fulls.now) m) (member_is core held pooled)
     ∙ ap (λ (ms : List Mailbox). mailbox_at ms (free_member core a.object)) (sym held.mailboxes_are)) in
-    record {
-      reason_is = sym (ap verdict_reason c.in-Rejected.is) ∙ c.judge_write-verdict.ensures ∙ found core held pooled;
-      answer_is = rw (reason_named c.in-Rejected.r);
-      mailboxes_are = rw (reason_named c.in-Rejected.r) (sym held.mailboxes_are);
-    }
+    let p = err_from_is_err_and c.from_residual.result c.from_residual.ensures.1 in
+    rw (p.1, p.2)
+    (record {
+      reason_is = sym (ap verdict_reason c.in_err-judge_write.was) ∙ c.judge_write.ensures ∙ found core held pooled;
+      answer_is = rw (reason_named _);
+      mailboxes_are = rw (reason_named _) (sym held.mailboxes_are);
+    })
