@@ -1,6 +1,7 @@
 -- What a call owes, carried from the driver's contracts to a request's: a reply told as a verdict and an answer, and calls that take no
 -- memory or no sheet, which leave any as it is.
 use Prim.Native.Nat.{ℕ}
+use Rattle.std.specs.Prelude.{Result, Ok, Err}
 use mathlib.Core.Path.{◌≡◌, refl, ap, sym}
 use mathlib.Core.List.{List, []}
 use lib.Dec.{eqb}
@@ -22,9 +23,9 @@ use Rattle.core_answers.specs.Answer.{verdict_reason}
 use Rattle.core_answers.specs.Performed.{Performed}
 use Rattle.core_answers.specs.Reply.{question_of, question_answer}
 use Rattle.core_answers.specs.declared.question.Question.{Question}
-use Rattle.core_answers.specs.declared.reply.QuestionReply.{QuestionReply}
-use Rattle.core_answers.specs.declared.reply.QuestionReply.TheVariants.{Answered, Rejected}
+use Rattle.core_answers.specs.declared.rejection.Rejection.{Rejection}
 use Rattle.can_calls.specs.Answer.{answer_of, number_told}
+use Rattle.can_calls.specs.declared.answer.Answer as answers
 use Rattle.can_calls.specs.declared.answer.Answer.TheVariants.{Nothing}
 use Rattle.can_calls.specs.declared.perform.Played.{Played}
 
@@ -33,15 +34,21 @@ abbrev pub Gave : Outcome (State can_format) → Played → List ℕ → List �
 Gave o p ram before after = Performed o (verdict_reason p.verdict) (answer_of p.answer) (view p.state) p.notifications ram before after
 
 -- a question is answered with the number in its reply
-pub question_told : {q known : Question} {n : ℕ} (reply : QuestionReply) → q ≡ known → n ≡ number_told reply → rules.told (question_of known) n ≡ question_answer q reply
-question_told (Answered m) is number = rw (is, number)
-question_told (Rejected r) is number = rw (is, number)
+pub question_told : {q known : Question} {n : ℕ} (reply : Result ℕ Rejection) → q ≡ known → n ≡ number_told reply → rules.told (question_of known) n ≡ question_answer q reply
+question_told (Ok m) is number = rw (is, number)
+question_told (Err r) is number = rw (is, number)
 
 -- a verdict alone
-pub told : {o : Outcome (State can_format)} {called : Called} {played : Played} {ram before after : List ℕ}
-    → played ≡ record { state = called.state; verdict = called.verdict; answer = Nothing; notifications = called.notifications }
-    → Performed o (verdict_reason called.verdict) no_answer (view called.state) called.notifications ram before after → Gave o played ram before after
+pub told : {o : Outcome (State can_format)} {called : Called (Unit {0})} {played : Played} {ram before after : List ℕ}
+    → played ≡ record { state = called.state; verdict = called.reply; answer = Nothing; notifications = called.notifications }
+    → Performed o (verdict_reason called.reply) no_answer (view called.state) called.notifications ram before after → Gave o played ram before after
 told e p = rw e p
+
+-- a verdict with an answer
+pub answered : {T : Type 0} {o : Outcome (State can_format)} (called : Called T) (played : Played) {answer : answers.Answer} {given : Answer} {ram before after : List ℕ}
+    → (played.state ≡ called.state) × (verdict_reason played.verdict ≡ verdict_reason called.reply) × (played.answer ≡ answer) × (played.notifications ≡ called.notifications)
+    → answer_of answer ≡ given → Performed o (verdict_reason called.reply) given (view called.state) called.notifications ram before after → Gave o played ram before after
+answered called played e f p = rw (e.0, e.1, e.2, e.3, f) p
 
 module _ {S : Type 0} where
   -- a reply, as the verdict and the answer in it

@@ -24,7 +24,7 @@ pub struct Played {
 }
 
 // What came of a call that answers this.
-fn played<T: Copy>(called: Called<T>, answer: Answer) -> Played
+fn answered<T: Copy>(called: Called<T>, answer: Answer) -> Played
     ensures { (result.state ≡ called.state) × (verdict_reason result.verdict ≡ verdict_reason called.reply) × (result.answer ≡ answer)
         × (result.notifications ≡ called.notifications) }
 {
@@ -67,7 +67,7 @@ fn get(state: State, sheet: &mut [u32], question: Question, controller: u32) -> 
         (verdict_reason result.verdict) (answer_of result.answer) (view result.state) result.notifications [] sheet.old sheet.new }
 {
     let asked = ask(state, sheet, question, controller);
-    played(asked, question_answer(question, asked.reply))
+    answered(asked, question_answer(question, asked.reply))
 }
 
 // Write.
@@ -87,7 +87,7 @@ fn write(state: State, ram: &mut [u8], sheet: &mut [u32], data: &[u8], request: 
         request.identifier,
         data,
     );
-    played(written, write_answer(written.reply))
+    answered(written, write_answer(written.reply))
 }
 
 // Arrived.
@@ -105,7 +105,7 @@ fn arrived(state: State, ram: &mut [u8], sheet: &mut [u32], data: &[u8], request
         request.identifier,
         data,
     );
-    played(arrived, arrival_answer(arrived.reply))
+    answered(arrived, arrival_answer(arrived.reply))
 }
 
 // Who sends next, which changes nothing.

@@ -38,7 +38,7 @@ pub fn sent(
     ensures places { Places chip.objects pendings.new dones.new fulls.new }
 {
     let gate = state_gate(true);
-    core_events::tx_complete::tx_complete(
+    let _ = core_events::tx_complete::tx_complete(
         gate,
         initialised,
         object_count,
@@ -71,7 +71,7 @@ pub fn off(
     ensures places { Places chip.controllers modes.new requests.new marks.new }
 {
     let gate = state_gate(true);
-    core_events::bus_off_detected::bus_off_detected(
+    let _ = core_events::bus_off_detected::bus_off_detected(
         gate,
         initialised,
         controller_count,

@@ -35,8 +35,10 @@ received-requires c =
 
 pub returns-in-Ok : goal.returns-in-Ok
 returns-in-Ok c s held got =
-    let on_bus = c.judge_on_bus-on_bus.ensures ∙ on_bus_read c.args.controller held c.controller_at-k.ensures in
-    let found = behind _ _ c.and-2.ensures refl (behind _ _ c.and.ensures on_bus c.judge_frame-frame.ensures) in
+    let a = c.args in
+    let frame : Frame = record { identifier = a.identifier; sdu = a.sdu.now } in
+    let on_bus = c.judge_on_bus-on_bus.ensures ∙ on_bus_read a.controller held c.controller_at-k.ensures in
+    let found : verdict_reason c.and-2.result ≡ (verdict_reason a.gate then arrival_reason chip can_format s a.controller frame) = behind _ _ c.and-2.ensures refl (behind _ _ c.and.ensures on_bus c.judge_frame-frame.ensures) in
     rw (judged_accepts _ _ _ (sym found ∙ ap verdict_reason c.in-Ok.is)) (c.received.ensures s got)
 
 pub returns-in-Err : goal.returns-in-Err

@@ -3,4 +3,4 @@ use Rattle.can_calls.proofs.Laws.{replied}
 use Rattle.can_calls.proofs.perform.next.Goals as goal
 
 pub returns : goal.returns
-returns c = replied c.next_verdict-verdict.ensures c.next_answer-answer.ensures c.next_to_send-reply.ensures
+returns c = replied c.verdict.ensures c.next_answer.ensures c.next_to_send-reply.ensures
