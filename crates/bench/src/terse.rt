@@ -178,26 +178,13 @@ pub fn bytes(out: &mut [u8], at: usize, line: u64, word: &[u8], data: &[u8]) -> 
     put(out, end, b"\n")
 }
 
-// How many bytes were written.
-fn written(reply: ConfigReply) -> usize {
-    match reply {
-        ConfigReply::Written(size) => size,
-        ConfigReply::Rejected(_) => 0,
-    }
-}
-
-// The line, and what the writer says: `LINE config CODE REASON`.
-fn config_verdict(out: &mut [u8], at: usize, line: u64, verdict: Verdict) -> usize {
-    let mut end = numbered(out, at, b"", line);
-    end = numbered(out, end, b" config ", can::return_code(verdict) as u64);
-    numbered(out, end, b" ", can::verdict_reason(verdict) as u64)
-}
-
-// The configuration as the writer wrote it: the same, and ` HEX`.
+// What the writer says, and the configuration as it wrote it: `LINE config CODE REASON HEX`.
 pub fn config(out: &mut [u8], at: usize, line: u64, reply: ConfigReply, buffer: &[u8]) -> usize {
-    let mut end = config_verdict(out, at, line, can::config_verdict(reply));
+    let mut end = numbered(out, at, b"", line);
+    end = numbered(out, end, b" config ", can::return_code(reply) as u64);
+    end = numbered(out, end, b" ", can::verdict_reason(reply) as u64);
     end = put(out, end, b" ");
-    end = hex_or_none(out, end, between(buffer, 0, written(reply)));
+    end = hex_or_none(out, end, between(buffer, 0, reply.unwrap_or(0)));
     put(out, end, b"\n")
 }
 

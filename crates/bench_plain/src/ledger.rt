@@ -1,7 +1,7 @@
 // What a call leaves in the book of a night.
 use crate::book;
 use crate::book::{count, count_dropped, owner, set_controllers, set_origin, set_sent};
-use can::{State, Verdict};
+use can::State;
 use can_calls::answer::Answer;
 use can_calls::request::{Function, Request};
 
@@ -41,13 +41,6 @@ fn note_dropped(book: &mut [u64], before: State, initialised: bool) {
         return;
     }
     count_dropped(book, before);
-}
-
-pub fn is_accepted(verdict: Verdict) -> bool {
-    match verdict {
-        Verdict::Accepted => true,
-        Verdict::Rejected(_) => false,
-    }
 }
 
 // A sent event that is accepted.

@@ -8,7 +8,7 @@ use bench_say::form::{hex_or_none, to_column};
 use bench_script::name::Name;
 use bench_text::put::put;
 use bench_words::reading::Trouble;
-use can::{CONTROLLERS, ConfigReply, State, Verdict};
+use can::{CONTROLLERS, ConfigReply, State};
 use can_calls::answer::Answer;
 use can_calls::perform::Played;
 use can_calls::request::{Function, Request};
@@ -90,10 +90,8 @@ fn replied(
     let next = played.state;
     let answer = played.answer;
     match verdict {
-        Verdict::Accepted => accepted(out, at, request, answer, next, played.notifications, ram),
-        Verdict::Rejected(reason) => refused::call(
-            out, at, state, desk, book, request, length, bytes, reason,
-        ),
+        Ok(()) => accepted(out, at, request, answer, next, played.notifications, ram),
+        Err(reason) => refused::call(out, at, state, desk, book, request, length, bytes, reason),
     }
 }
 
@@ -132,11 +130,11 @@ pub fn config(
     let mut end = configs::asked(out, at, line, version as u64, room as u64);
     end = to_column(out, end, at, ANSWER);
     match reply {
-        ConfigReply::Written(size) => {
+        Ok(size) => {
             end = configs::written(out, end, size as u64);
             config::shown(out, end, state)
         }
-        ConfigReply::Rejected(reason) => config::refused(out, end, state, version, room, reason),
+        Err(reason) => config::refused(out, end, state, version, room, reason),
     }
 }
 

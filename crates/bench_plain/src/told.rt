@@ -1,5 +1,5 @@
 // A call and all that came of it, in plain words and in the book.
-use crate::ledger::{is_accepted, note_answer, note_call};
+use crate::ledger::{note_answer, note_call};
 use crate::night::Desk;
 use crate::tell::{Poll, Told};
 use crate::{plain, tell};
@@ -26,7 +26,7 @@ pub fn in_words(
     let next = played.state;
     let answer = played.answer;
     let verdict = played.verdict;
-    note_call(book, state, next, request, desk.line, is_accepted(verdict));
+    note_call(book, state, next, request, desk.line, verdict.is_ok());
     note_answer(book, state, request, answer, desk.line);
     let lists = desk.lists;
     let start = Told {

@@ -31,20 +31,16 @@ pub fn added(a: Sum, b: Sum) -> Sum {
 
 // One more call.
 fn counted(sum: Sum, verdict: Verdict, notifications: usize) -> Sum {
-    let refused = match verdict {
-        Verdict::Accepted => 0,
-        Verdict::Rejected(_) => 1,
-    };
     let call = Sum {
-        refused: refused,
+        refused: verdict.is_err() as u64,
         notifications: notifications as u64,
     };
     added(sum, call)
 }
 
-fn after(sum: Sum, called: can::Called) -> Done {
+fn after(sum: Sum, called: can::Called<()>) -> Done {
     let state = called.state;
-    let verdict = called.verdict;
+    let verdict = called.reply;
     let next = counted(sum, verdict, called.notifications);
     Done {
         state: state,
@@ -67,7 +63,7 @@ fn written(done: Done, ram: &mut [u8], sheet: &mut [u32], handle: u32) -> Done {
     );
     let state = called.state;
     let reply = called.reply;
-    let next = counted(sum, can::write_verdict(reply), called.notifications);
+    let next = counted(sum, can::verdict(reply), called.notifications);
     Done {
         state: state,
         sum: next,
@@ -101,7 +97,7 @@ fn received(done: Done, ram: &mut [u8], sheet: &mut [u32]) -> Done {
     let arrived = can::frame_arrived(before, ram, sheet, 0, 0x120, b"pressure");
     let state = arrived.state;
     let reply = arrived.reply;
-    let next = counted(sum, can::arrival_verdict(reply), arrived.notifications);
+    let next = counted(sum, can::verdict(reply), arrived.notifications);
     after(next, can::main_function_read(state, ram, sheet))
 }
 
@@ -112,7 +108,7 @@ fn looked(done: Done, sheet: &mut [u32]) -> Done {
     let asked = can::get_controller_mode(before, sheet, 0);
     let state = asked.state;
     let reply = asked.reply;
-    let next = counted(sum, can::question_verdict(reply), asked.notifications);
+    let next = counted(sum, can::verdict(reply), asked.notifications);
     Done {
         state: state,
         sum: next,

@@ -23,8 +23,7 @@ fn reason_of_init(code: u32, mask: u32) -> u32 {
     let mut sheet = [0u32; can::SHEET_SIZE];
     let bytes = configuration(code, mask);
     let called = can::init(can::initial_state(), &mut ram, &mut sheet, &bytes);
-    let verdict = called.verdict;
-    can::verdict_reason(verdict)
+    can::verdict_reason(called.reply)
 }
 
 // The reason that GetControllerMode gives in the state that K leaves, once it is made to hold this filter.
@@ -36,8 +35,7 @@ fn reason_of_state(code: u32, mask: u32) -> u32 {
     state.codes[1] = code;
     state.masks[1] = mask;
     let asked = can::get_controller_mode(state, &mut sheet, 0);
-    let reply = asked.reply;
-    can::verdict_reason(can::question_verdict(reply))
+    can::verdict_reason(asked.reply)
 }
 
 fn filter(stdout: &impl Print, code: u32, mask: u32) {
