@@ -1,5 +1,6 @@
 // The core of the driver's state: whose each hardware object is, and what waits where.
 ghost use Rattle.std.specs.Prelude.{◌≡◌};
+ghost use Rattle.core_places.specs.Sized.{Sized};
 ghost use Rattle.core_places.specs.View.{view_core, limits_of};
 ghost use Rattle.rules.specs.Core as rules;
 
@@ -35,5 +36,14 @@ impl<const C: usize, const O: usize> Core<C, O> {
             owners: Owners::unused(),
             mailboxes: Mailboxes::empty(),
         }
+    }
+    // How many places there are, for controllers and for objects. Each list is as long as its type says, which its own `len` tells.
+    pub fn places(&self) -> (usize, usize)
+        ensures numbers { (result.0 ≡ C) × (result.1 ≡ O) }
+        ensures sized { Sized C O (view_core self.now) }
+    {
+        let _ = self.errors.len();
+        let _ = self.mailboxes.len();
+        (self.controllers.len(), self.owners.len())
     }
 }
