@@ -63,3 +63,8 @@ module _ {A B C D E : Type 0} (f : A → B → C → D → E) where
   zip_4_at xs ys zs ws i x y z w alike fourth =
       zip_at (λ g w. g w) (zip_with_3 f xs ys zs) ws i (f x y z) w (fourth ∙ sym (zip_3_length f xs ys zs alike))
       ∙ ap (λ (g : D → E). g (get_or ws i w)) (zip_3_at f xs ys zs i x y z alike)
+
+  pub zip_4_replicate : (n : ℕ) (x : A) (y : B) (z : C) (w : D) → zip_with_4 f (replicate n x) (replicate n y) (replicate n z) (replicate n w) ≡ replicate n (f x y z w)
+  unfolding zip_with
+  zip_4_replicate zero x y z w = refl
+  zip_4_replicate (suc n) x y z w = ap (λ (l : List E). f x y z w ∷ l) (zip_4_replicate n x y z w)
