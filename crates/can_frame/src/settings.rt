@@ -40,15 +40,13 @@ pub fn receiving_valid(payload: u32, padding: u8, code: u32, mask: u32) -> bool
             & within_mask(code, mask))
 }
 
-// Settings that Init accepts for an object of this kind.
+// Settings that Init accepts for an object of this kind. Both tests are made, with no branch between them, so that many objects are tested at once.
 pub fn settings_valid(receiving: bool, payload: u32, padding: u8, code: u32, mask: u32) -> bool
     ensures { result ≡ can.settings_valid receiving (record { payload = payload; padding = padding; code = code; mask = mask }) }
 {
-    if receiving {
-        receiving_valid(payload, padding, code, mask)
-    } else {
-        sending_valid(payload, padding, code, mask)
-    }
+    let receives = receiving_valid(payload, padding, code, mask);
+    let sends = sending_valid(payload, padding, code, mask);
+    if receiving { receives } else { sends }
 }
 
 // The settings of an unused place: all zero.

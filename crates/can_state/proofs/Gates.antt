@@ -44,8 +44,8 @@ module _ (s : State) {valid : Bool} (test : valid ≡ rules.valid chip can_forma
 
 -- a valid state has no more in use than there are places
 pub record Within (s : State) : Type 0 where
-  pub controllers : s.controller_count ≤ chip.controllers
-  pub objects : s.object_count ≤ chip.objects
+  pub controllers : s.core.controller_count ≤ chip.controllers
+  pub objects : s.core.object_count ≤ chip.objects
 
 pub within : (s : State) → rules.valid chip can_format (view s) ≡ true → Within s
 within s v =

@@ -1,4 +1,4 @@
--- Laws of settings in lent arrays, how many places a state has, that the view forgets nothing, and what the calls share.
+-- Laws of the tests, how many places a state has, that the view forgets nothing, and what the calls share.
 pub mod Laws
 pub mod Sizes
 pub mod Injective

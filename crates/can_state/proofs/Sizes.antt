@@ -1,4 +1,4 @@
--- A state that the code has is of the chip's size. A proof has what is asked here in what it knows of a parameter: `c.good.0`, if the
+-- A state that the code has is of the chip's size. A proof has what is asked here in what it knows of a parameter: `c.well_formed.0`, if the
 -- state comes first.
 use Prim.Native.Nat.{ℕ}
 use mathlib.Core.Path.{◌≡◌, sym, ◌∙◌}
@@ -16,20 +16,12 @@ length_of_map f l n e = sym (length-map l f) ∙ e
 pub sizes : (s : State) (v : List Val) → Is the_row s v → Sized s
 sizes s v known =
     record {
-      modes = search length_of_map;
-      requests = search length_of_map;
-      marks = search length_of_map;
-      recoverings = search length_of_map;
-      tx_errors = search length_of_map;
-      rx_errors = search length_of_map;
-      owners = search length_of_map;
-      receivings = search length_of_map;
-      pools = search length_of_map;
-      pendings = search length_of_map;
-      dones = search length_of_map;
-      fulls = search length_of_map;
-      payloads = search length_of_map;
-      paddings = search length_of_map;
-      codes = search length_of_map;
-      masks = search length_of_map;
+      core_is =
+          record {
+            controllers_are = search length_of_map;
+            errors_are = search length_of_map;
+            owners_are = search length_of_map;
+            mailboxes_are = let mailboxes = known.1.1.0.1.1.1.1.1.1.1 in search length_of_map;
+          };
+      settings_are = search length_of_map;
     }

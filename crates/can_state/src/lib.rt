@@ -4,5 +4,6 @@
 pub mod agreement;
 pub mod called;
 pub mod settings;
+pub mod settings_places;
 pub mod state;
 pub mod validity;

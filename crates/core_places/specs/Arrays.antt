@@ -1,7 +1,7 @@
--- Places in lent arrays, one array for each field: what stands at a place is what stands at its number in each of them.
+-- Places that stand in one array for each field: what stands at a place is what stands at its number in each of them.
 use Rattle.std.specs.Prelude.{ℕ, ◌≡◌, Bool, List, [], ◌∷◌, length}
 use Rattle.rules.specs.Errors.{Errors}
-use Rattle.rules.specs.Core.{Controller, Owner, Mailbox, Core}
+use Rattle.rules.specs.Core.{Controller, Owner, Mailbox}
 
 -- two lists side by side, as far as both go
 unfoldable pub zip_with : {A B C : Type 0} → (A → B → C) → List A → List B → List C
@@ -32,19 +32,6 @@ mailboxes_in pendings dones fulls = zip_with_3 (λ p d f. record { tx_pending = 
 -- second mark, transmit count, receive count
 abbrev pub errors_in : List Bool → List ℕ → List ℕ → List Errors
 errors_in recoverings tx_errors rx_errors = zip_with_3 (λ b t r. record { recovering = b; tx_errors = t; rx_errors = r }) recoverings tx_errors rx_errors
-
--- the core that stands in these arrays
-abbrev pub core_in : Bool → ℕ → ℕ → List ℕ → List ℕ → List Bool → List ℕ → List Bool → List ℕ → List Bool → List Bool → List Bool → List Bool → List ℕ → List ℕ → Core
-core_in initialised controller_count object_count modes requests marks owners receivings pools pendings dones fulls recoverings tx_errors rx_errors =
-    record {
-      initialised = initialised;
-      controller_count = controller_count;
-      object_count = object_count;
-      owners = owners_in owners receivings pools;
-      controllers = controllers_in modes requests marks;
-      mailboxes = mailboxes_in pendings dones fulls;
-      errors = errors_in recoverings tx_errors rx_errors;
-    }
 
 -- the arrays have a place for each of the same numbers
 pub record Alike {A B C : Type 0} (xs : List A) (ys : List B) (zs : List C) : Type 0 where

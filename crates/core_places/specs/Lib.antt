@@ -1,5 +1,6 @@
--- How the structs and the lent arrays stand for the places of the rules, and what a caller holds of a core.
+-- How the structs stand for the places of the rules, and the laws by which a struct of arrays is seen as the list of its places.
 pub mod View
+pub mod Sized
 pub mod Arrays
-pub mod Held
-pub mod Pools
+pub mod Zip
+pub mod Columns

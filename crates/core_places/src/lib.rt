@@ -1,11 +1,15 @@
-// The places of the core: a controller, its errors, an object's owner, a mailbox. Each is a struct by value; many of them stand in lent
-// arrays, one for each field.
+// The places of the core: a controller, its errors, an object's owner, a mailbox. Each is a struct by value; many of them are a struct with an
+// array for each field, which clauses see as the list of the places.
 #![tactic(auto)]
 
 pub mod at;
 pub mod controller;
+pub mod controllers;
+pub mod core_state;
+pub mod error_places;
 pub mod errors;
 pub mod mailbox;
+pub mod mailboxes;
 pub mod owner;
+pub mod owners;
 pub mod range;
-pub mod store;

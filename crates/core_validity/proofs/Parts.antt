@@ -1,32 +1,23 @@
 -- The tests of the arrays make up the test of all places.
-use Prim.Native.Nat.{ℕ, ◌≤◌, ◌<◌, ◌-◌, min}
+use Prim.Native.Nat.{ℕ, ◌≤◌, ◌<◌, min}
 use native.Mathlib.Omega.{arith}
 use mathlib.Core.Path.{◌≡◌, refl, sym, ap, ◌∙◌}
 use mathlib.Core.Bool.{Bool, true, false, not, cond, ◌&&◌, ◌||◌, and-true, and-false, and_assoc, and_comm}
 use mathlib.Core.Logic.{⊎_elim}
 use mathlib.Core.List.{List}
-use lib.ListN.{length, get_or}
+use lib.ListN.{length}
 use lib.Dec.{eqb, ltb, leb}
-use borrow.Author.Tests.{ltb-true, ltb-false, le-leb, lt-leb, leb-true, eq-eqb, eqb-true}
-use Rattle.rules.specs.Mode.{STARTED}
+use borrow.Author.Tests.{ltb-true, leb-true, eq-eqb, eqb-true}
 use Rattle.rules.specs.Repeat.{all_below}
 use Rattle.rules.specs.Errors.{Errors, errors_none}
 use Rattle.rules.specs.Core.{Controller, Owner, Mailbox, Core, has_places, owner_place_valid, controller_place_valid, mailbox_place_valid, owner_at, mailbox_at, controller_at, errors_at, controller_of, is_started, controller_valid, errors_valid, controller_idle, owner_valid, owner_unused, mailbox_valid, mailbox_empty}
 use Rattle.laws.proofs.Tests.{both, left, right, decide, same_truth, under}
 use Rattle.laws.proofs.Repeat.{all_facts, facts_all}
-use Rattle.core_places.specs.Arrays.{Alike, controllers_in, owners_in, mailboxes_in, core_in}
-use Rattle.core_places.proofs.Laws.{limited_count, zip_3_length, controller_seen, owner_seen, mailbox_seen}
-use Rattle.core_validity.specs.Arrays.{limits_of, Places}
+use Rattle.core_places.specs.Sized.{Sized}
+use Rattle.core_places.specs.View.{limits_of}
+use Rattle.core_places.proofs.Laws.{limited_count}
 use Rattle.core_validity.specs.Tests.{counts_suit, controllers_valid, controllers_idle, objects_valid, objects_unused, waiting_started, places_valid, errors_suit, errors_rest, errors_places_valid}
 use Rattle.core_validity.proofs.Laws.{and_pairs, all_below_ext, all_below-and, by_use, by_count}
-
--- An owner is a byte: it is below the count if it is at most the largest byte below the count.
-pub byte_below : (o count : ℕ) → 1 ≤ count → o < 256 → leb o (min (count - 1) 255) ≡ ltb o count
-byte_below o count some byte = go (ltb o count) refl
-  where
-    go : (b : Bool) → ltb o count ≡ b → leb o (min (count - 1) 255) ≡ b
-    go true e = let l = ltb-true o count e in le-leb o (min (count - 1) 255) (omega arith)
-    go false e = let l = ltb-false o count e in lt-leb o (min (count - 1) 255) (omega arith)
 
 -- A frame waits only for a STARTED controller, asked of the objects and asked of the controllers.
 module _ (count n : ℕ) (started waits : ℕ → Bool) (owner : ℕ → ℕ) (named : (h : ℕ) → h < count → owner h < n) where
@@ -86,122 +77,108 @@ regrouped owners controllers mailboxes a b c d e f =
     and_assoc owners controllers mailboxes ∙ ap (λ (t : Bool). owners && t) (and_comm controllers mailboxes) ∙ sym (and_assoc owners mailboxes controllers)
     ∙ rw (e, f) (and_comm (b && d) (a && c) ∙ and_pairs a c b d)
 
-module _ (initialised : Bool) (controller_count object_count : ℕ) (modes requests : List ℕ) (marks : List Bool) (owners : List ℕ) (receivings : List Bool) (pools : List ℕ)
-    (pendings dones fulls recoverings : List Bool) (tx_errors rx_errors : List ℕ) (places : Places modes requests marks owners receivings pools pendings dones fulls) where
+module _ (C O : ℕ) (core : Core) (sized : Sized C O core) where
   abbrev ks : List Controller
-  ks = controllers_in modes requests marks
+  ks = core.controllers
 
   abbrev os : List Owner
-  os = owners_in owners receivings pools
-
-  alike : Alike owners receivings pools
-  alike = record { second = places.objects.kinds; third = places.pooled }
+  os = core.owners
 
   abbrev ms : List Mailbox
-  ms = mailboxes_in pendings dones fulls
-
-  abbrev core : Core
-  core = core_in initialised controller_count object_count modes requests marks owners receivings pools pendings dones fulls recoverings tx_errors rx_errors
+  ms = core.mailboxes
 
   abbrev counts : Bool
-  counts = counts_suit (limits_of (length modes) (length owners)) initialised controller_count object_count
+  counts = counts_suit (limits_of C O) core.initialised core.controller_count core.object_count
 
   abbrev test : Bool
-  test = places_valid (limits_of (length modes) (length owners)) core
+  test = places_valid (limits_of C O) core
 
   -- Counts that do not suit refuse any core.
   pub counts_refuse : counts ≡ false → false ≡ test
   unfolding places_valid
-  counts_refuse e = rw (e, and-false (has_places (limits_of (length modes) (length owners)) core))
+  counts_refuse e = rw (e, and-false (has_places (limits_of C O) core))
 
   -- the objects in use, as the rules ask
   abbrev object_in_use : ℕ → Bool
-  object_in_use h = owner_valid controller_count (owner_at os h) && mailbox_valid (owner_at os h).receiving (is_started (controller_of core h)) (mailbox_at ms h)
+  object_in_use h = owner_valid core.controller_count (owner_at os h) && mailbox_valid (owner_at os h).receiving (is_started (controller_of core h)) (mailbox_at ms h)
 
-  all_places : has_places (limits_of (length modes) (length owners)) core ≡ true
-  all_places =
-      let boxes = zip_3_length _ pendings dones fulls places.objects.flags ∙ places.objects.boxes in
-      both (both (eq-eqb _ _ (zip_3_length _ modes requests marks places.controllers)) (eq-eqb _ _ (zip_3_length _ owners receivings pools alike))) (eq-eqb _ _ boxes)
+  all_places : has_places (limits_of C O) core ≡ true
+  all_places = both (both (eq-eqb _ _ sized.controllers_are) (eq-eqb _ _ sized.owners_are)) (eq-eqb _ _ sized.mailboxes_are)
 
-  controllers_parts : controller_count ≤ length modes
-      → all_below (length modes) (controller_place_valid core) ≡ (controllers_valid ks controller_count && controllers_idle ks controller_count)
+  controllers_parts : core.controller_count ≤ C
+      → all_below C (controller_place_valid core) ≡ (controllers_valid ks core.controller_count && controllers_idle ks core.controller_count)
   controllers_parts l =
-      rw (zip_3_length _ modes requests marks places.controllers)
-      (by_count controller_count (λ c. controller_idle (controller_at ks c)) (length modes) (λ c. controller_valid (controller_at ks c)) l)
+      rw sized.controllers_are
+      (by_count core.controller_count (λ c. controller_idle (controller_at ks c)) C (λ c. controller_valid (controller_at ks c)) l)
 
-  objects_parts : object_count ≤ length owners
-      → (all_below (length owners) (owner_place_valid controller_count object_count os) && all_below (length owners) (mailbox_place_valid core))
-      ≡ (all_below object_count object_in_use && objects_unused os ms object_count)
+  objects_parts : core.object_count ≤ O
+      → (all_below O (owner_place_valid core.controller_count core.object_count os) && all_below O (mailbox_place_valid core))
+      ≡ (all_below core.object_count object_in_use && objects_unused os ms core.object_count)
   objects_parts l =
-      rw (zip_3_length _ owners receivings pools alike)
+      rw sized.owners_are
       (sym
-      (by_use (length owners) object_count (λ h. owner_valid controller_count (owner_at os h))
+      (by_use O core.object_count (λ h. owner_valid core.controller_count (owner_at os h))
       (λ h. mailbox_valid (owner_at os h).receiving (is_started (controller_of core h)) (mailbox_at ms h)) (λ h. owner_unused (owner_at os h))
       (λ h. mailbox_empty (mailbox_at ms h)))
-      ∙ by_count object_count (λ h. owner_unused (owner_at os h) && mailbox_empty (mailbox_at ms h)) (length owners) object_in_use l)
+      ∙ by_count core.object_count (λ h. owner_unused (owner_at os h) && mailbox_empty (mailbox_at ms h)) O object_in_use l)
 
   -- What is in use, and what is not.
-  by_places : counts ≡ true → controller_count ≤ length modes → object_count ≤ length owners
+  by_places : counts ≡ true → core.controller_count ≤ C → core.object_count ≤ O
       → test
-      ≡ (controllers_valid ks controller_count && all_below object_count object_in_use && (controllers_idle ks controller_count && objects_unused os ms object_count))
+      ≡ (controllers_valid ks core.controller_count && all_below core.object_count object_in_use && (controllers_idle ks core.controller_count && objects_unused os ms core.object_count))
   unfolding places_valid
   by_places e c o =
-      let owned = all_below (length owners) (owner_place_valid controller_count object_count os) in
-      let controls = all_below (length modes) (controller_place_valid core) in
-      let boxes = all_below (length owners) (mailbox_place_valid core) in
+      let owned = all_below O (owner_place_valid core.controller_count core.object_count os) in
+      let controls = all_below C (controller_place_valid core) in
+      let boxes = all_below O (mailbox_place_valid core) in
       rw (all_places, e)
-      (regrouped owned controls boxes (controllers_valid ks controller_count) (all_below object_count object_in_use)
-      (controllers_idle ks controller_count) (objects_unused os ms object_count) (objects_parts o) (controllers_parts c))
+      (regrouped owned controls boxes (controllers_valid ks core.controller_count) (all_below core.object_count object_in_use)
+      (controllers_idle ks core.controller_count) (objects_unused os ms core.object_count) (objects_parts o) (controllers_parts c))
 
   -- an object in use, as far as it shows itself
   abbrev alone : ℕ → Bool
-  alone h = ltb (get_or owners h 0) controller_count && mailbox_valid (get_or receivings h false) true (mailbox_at ms h)
+  alone h = ltb (owner_at os h).controller core.controller_count && mailbox_valid (owner_at os h).receiving true (mailbox_at ms h)
 
   abbrev waits_rightly : ℕ → Bool
-  waits_rightly h = not (get_or pendings h false) || eqb (get_or modes (get_or owners h 0) 0) STARTED
+  waits_rightly h = not (mailbox_at ms h).tx_pending || is_started (controller_of core h)
 
   object_parts : (h : ℕ) → object_in_use h ≡ (alone h && waits_rightly h)
   object_parts h =
-      let named = ltb (get_or owners h 0) controller_count in
+      let named = ltb (owner_at os h).controller core.controller_count in
+      let receiving = (owner_at os h).receiving in
       let box = mailbox_at ms h in
-      let started = is_started (controller_at ks (get_or owners h 0)) in
-      let seen : (not box.tx_pending || started) ≡ waits_rightly h =
-      rw (mailbox_seen pendings dones fulls h places.objects.flags, controller_seen modes requests marks (get_or owners h 0) places.controllers)
-      in
-      rw (owner_seen owners receivings pools h alike)
-      (ap (λ (b : Bool). named && b) (mailbox_parts (get_or receivings h false) started box)
-      ∙ sym (and_assoc named (mailbox_valid (get_or receivings h false) true box) (not box.tx_pending || started))
-      ∙ ap (λ (b : Bool). alone h && b) seen)
+      ap (λ (b : Bool). named && b) (mailbox_parts receiving (is_started (controller_of core h)) box)
+      ∙ sym (and_assoc named (mailbox_valid receiving true box) (waits_rightly h))
 
-  waiting_parts : ((h : ℕ) → get_or owners h 0 < 256)
-      → all_below object_count object_in_use
-      ≡ (objects_valid controller_count owners receivings ms object_count && waiting_started (min controller_count 256) modes owners pendings object_count)
+  waiting_parts : ((h : ℕ) → h < core.object_count → (owner_at os h).controller < 256)
+      → all_below core.object_count object_in_use
+      ≡ (objects_valid core.controller_count os ms core.object_count && waiting_started (min core.controller_count 256) ks os ms core.object_count)
   waiting_parts byte =
-      all_below_ext object_count object_in_use (λ h. alone h && waits_rightly h) (λ h l. object_parts h)
-      ∙ sym (all_below-and object_count alone waits_rightly)
-      ∙ under (all_below object_count alone)
+      all_below_ext core.object_count object_in_use (λ h. alone h && waits_rightly h) (λ h l. object_parts h)
+      ∙ sym (all_below-and core.object_count alone waits_rightly)
+      ∙ under (all_below core.object_count alone)
       (λ e.
       sym
-      (by_owner object_count (min controller_count 256) (λ c. eqb (get_or modes c 0) STARTED) (λ h. get_or pendings h false) (λ h. get_or owners h 0)
+      (by_owner core.object_count (min core.controller_count 256) (λ c. is_started (controller_at ks c)) (λ h. (mailbox_at ms h).tx_pending) (λ h. (owner_at os h).controller)
       (λ h l.
-      let below = left (ltb (get_or owners h 0) controller_count) (mailbox_valid (get_or receivings h false) true (mailbox_at ms h)) (all_facts object_count alone e h l) in
-      omega (arith, ltb-true (get_or owners h 0) controller_count below, byte h))))
+      let below = left (ltb (owner_at os h).controller core.controller_count) (mailbox_valid (owner_at os h).receiving true (mailbox_at ms h)) (all_facts core.object_count alone e h l) in
+      omega (arith, ltb-true (owner_at os h).controller core.controller_count below, byte h l))))
 
   -- After initialisation the places in use are tested, and the others are at rest.
-  pub initialised_parts : counts ≡ true → controller_count ≤ length modes → object_count ≤ length owners → ((h : ℕ) → get_or owners h 0 < 256)
-      → (controllers_valid ks controller_count
-      && (objects_valid controller_count owners receivings ms object_count && waiting_started (min controller_count 256) modes owners pendings object_count)
-      && (controllers_idle ks controller_count && objects_unused os ms object_count))
+  pub initialised_parts : counts ≡ true → core.controller_count ≤ C → core.object_count ≤ O → ((h : ℕ) → h < core.object_count → (owner_at os h).controller < 256)
+      → (controllers_valid ks core.controller_count
+      && (objects_valid core.controller_count os ms core.object_count && waiting_started (min core.controller_count 256) ks os ms core.object_count)
+      && (controllers_idle ks core.controller_count && objects_unused os ms core.object_count))
       ≡ test
   initialised_parts e c o byte = sym (by_places e c o ∙ rw (waiting_parts byte))
 
   -- Before it nothing is in use.
-  pub uninitialised_parts : counts ≡ true → controller_count ≡ 0 → object_count ≡ 0
-      → (controllers_idle ks controller_count && objects_unused os ms object_count) ≡ test
+  pub uninitialised_parts : counts ≡ true → core.controller_count ≡ 0 → core.object_count ≡ 0
+      → (controllers_idle ks core.controller_count && objects_unused os ms core.object_count) ≡ test
   unfolding all_below
   uninitialised_parts e c o =
-      let no_controllers : controllers_valid ks controller_count ≡ true = ap (λ (n : ℕ). controllers_valid ks n) c in
-      let no_objects : all_below object_count object_in_use ≡ true = ap (λ (n : ℕ). all_below n object_in_use) o in
+      let no_controllers : controllers_valid ks core.controller_count ≡ true = ap (λ (n : ℕ). controllers_valid ks n) c in
+      let no_objects : all_below core.object_count object_in_use ≡ true = ap (λ (n : ℕ). all_below n object_in_use) o in
       sym (by_places e (omega arith) (omega arith) ∙ rw (no_controllers, no_objects))
 
 -- What the counts say of the places.

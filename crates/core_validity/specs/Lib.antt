@@ -1,4 +1,3 @@
--- What the tests of a core in lent arrays are made of.
-pub mod Arrays
+-- What the tests of a core are made of.
 pub mod Tests
 pub mod Pools

@@ -1,5 +1,5 @@
 -- The parts of the test of a core. Places in use stand first: a count parts them from the unused ones.
-use Rattle.std.specs.Prelude.{ℕ, Bool, true, false, not, cond, ◌&&◌, ◌||◌, List, length, get_or, eqb, ltb}
+use Rattle.std.specs.Prelude.{ℕ, Bool, true, not, cond, ◌&&◌, ◌||◌, List, length, eqb, ltb}
 use Rattle.rules.specs.Limits.{Limits}
 use Rattle.rules.specs.Mode.{STARTED}
 use Rattle.rules.specs.Repeat.{all_below}
@@ -24,25 +24,25 @@ abbrev pub controllers_idle : List Controller → ℕ → Bool
 controllers_idle ks count = all_from (length ks) count (λ c. controller_idle (controller_at ks c))
 
 -- each object in use names a controller in use, and its mailbox would be valid if that were STARTED
-abbrev pub objects_valid : ℕ → List ℕ → List Bool → List Mailbox → ℕ → Bool
-objects_valid controller_count owners receivings ms count =
-    all_below count (λ h. ltb (get_or owners h 0) controller_count && mailbox_valid (get_or receivings h false) true (mailbox_at ms h))
+abbrev pub objects_valid : ℕ → List Owner → List Mailbox → ℕ → Bool
+objects_valid controller_count os ms count =
+    all_below count (λ h. ltb (owner_at os h).controller controller_count && mailbox_valid (owner_at os h).receiving true (mailbox_at ms h))
 
 -- each other object is at rest
 abbrev pub objects_unused : List Owner → List Mailbox → ℕ → Bool
 objects_unused os ms count = all_from (length os) count (λ h. owner_unused (owner_at os h) && mailbox_empty (mailbox_at ms h))
 
 -- no frame waits in an object of controller c
-abbrev pub none_waits : List ℕ → List Bool → ℕ → ℕ → Bool
-none_waits owners pendings count c = all_below count (λ h. not (get_or pendings h false) || not (eqb (get_or owners h 0) c))
+abbrev pub none_waits : List Owner → List Mailbox → ℕ → ℕ → Bool
+none_waits os ms count c = all_below count (λ h. not (mailbox_at ms h).tx_pending || not (eqb (owner_at os h).controller c))
 
 -- controller c, which is in this mode, is STARTED, or no frame waits for it
-abbrev pub started_or_none : List ℕ → List Bool → ℕ → ℕ → ℕ → Bool
-started_or_none owners pendings count mode c = eqb mode STARTED || none_waits owners pendings count c
+abbrev pub started_or_none : List Owner → List Mailbox → ℕ → ℕ → ℕ → Bool
+started_or_none os ms count mode c = eqb mode STARTED || none_waits os ms count c
 
 -- so it is of every controller below a number
-abbrev pub waiting_started : ℕ → List ℕ → List ℕ → List Bool → ℕ → Bool
-waiting_started controllers modes owners pendings count = all_below controllers (λ c. started_or_none owners pendings count (get_or modes c 0) c)
+abbrev pub waiting_started : ℕ → List Controller → List Owner → List Mailbox → ℕ → Bool
+waiting_started controllers ks os ms count = all_below controllers (λ c. started_or_none os ms count (controller_at ks c).mode c)
 
 -- the errors of each controller in use are valid for it
 abbrev pub errors_suit : List Controller → List Errors → ℕ → Bool

@@ -1,40 +1,32 @@
 // All controllers.
-ghost use Rattle.std.specs.Prelude.{◌≡◌, ◌≤◌, length};
-ghost use Rattle.core_places.specs.Arrays.{Alike, controllers_in};
+ghost use Rattle.std.specs.Prelude.{◌≡◌, ◌≤◌};
 ghost use Rattle.core_validity.specs.Tests as tests;
 
-use core_places::controller::{Controller, controller_idle, controller_valid};
+use core_places::controller::{controller_idle, controller_valid};
+use core_places::controllers::Controllers;
 
 // Each controller in use is valid.
-pub fn controllers_valid(modes: &[u8], requests: &[u8], marks: &[bool], count: usize) -> bool
-    requires { Alike modes.now requests.now marks.now × (count ≤ length modes.now) }
-    ensures { result ≡ tests.controllers_valid (controllers_in modes.now requests.now marks.now) count }
+#[tactic(auto, using(crate::proofs::Laws::all_below_more), unfolding(rules::specs::Repeat::all_below))]
+pub fn controllers_valid<const N: usize>(controllers: &Controllers<N>, count: usize) -> bool
+    requires { count ≤ N }
+    ensures { result ≡ tests.controllers_valid controllers.now count }
 {
     let mut ok = true;
     for c in 0..count {
-        let k = Controller {
-            mode: modes[c],
-            requested_mode: requests[c],
-            bus_off: marks[c],
-        };
-        ok = ok & controller_valid(k);
+        ok = ok & controller_valid(controllers.read(c));
     }
     ok
 }
 
 // Each controller that is not in use is at rest.
-pub fn controllers_idle(modes: &[u8], requests: &[u8], marks: &[bool], count: usize) -> bool
-    requires { Alike modes.now requests.now marks.now × (count ≤ length modes.now) }
-    ensures { result ≡ tests.controllers_idle (controllers_in modes.now requests.now marks.now) count }
+#[tactic(auto, using(crate::proofs::Laws::from_none, crate::proofs::Laws::from_more))]
+pub fn controllers_idle<const N: usize>(controllers: &Controllers<N>, count: usize) -> bool
+    requires { count ≤ N }
+    ensures { result ≡ tests.controllers_idle controllers.now count }
 {
     let mut ok = true;
-    for c in count..modes.len() {
-        let k = Controller {
-            mode: modes[c],
-            requested_mode: requests[c],
-            bus_off: marks[c],
-        };
-        ok = ok & controller_idle(k);
+    for c in count..controllers.len() {
+        ok = ok & controller_idle(controllers.read(c));
     }
     ok
 }

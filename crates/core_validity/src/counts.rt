@@ -1,7 +1,7 @@
 // How many controllers and objects are in use.
 ghost use Rattle.std.specs.Prelude.{◌≡◌};
 ghost use Rattle.rules.specs.Core as rules;
-ghost use Rattle.core_validity.specs.Arrays.{limits_of};
+ghost use Rattle.core_places.specs.View.{limits_of};
 ghost use Rattle.core_validity.specs.Tests as tests;
 
 // From 1 controller to all, and from no object to all, where there are so many places.

@@ -1,80 +1,55 @@
 // The errors of all controllers.
-ghost use Rattle.std.specs.Prelude.{◌≡◌, ◌≤◌, length};
-ghost use Rattle.core_places.specs.Arrays.{Alike, controllers_in, errors_in};
+ghost use Rattle.std.specs.Prelude.{◌≡◌, ◌≤◌};
 ghost use Rattle.core_validity.specs.Tests as tests;
 
-use core_places::at::{read_controller, read_errors};
+use core_places::controllers::Controllers;
+use core_places::error_places::ErrorPlaces;
 use core_places::errors::{errors_none, errors_valid};
 use core_places::range::limited;
 
 // The errors of each controller in use are valid for it.
-fn errors_suit(
-    modes: &[u8],
-    requests: &[u8],
-    marks: &[bool],
-    recoverings: &[bool],
-    tx_errors: &[u32],
-    rx_errors: &[u32],
+#[tactic(auto, using(crate::proofs::Laws::all_below_more), unfolding(rules::specs::Repeat::all_below))]
+fn errors_suit<const N: usize>(
+    controllers: &Controllers<N>,
+    errors: &ErrorPlaces<N>,
     count: usize,
 ) -> bool
-    requires { Alike modes.now requests.now marks.now
-        × Alike recoverings.now tx_errors.now rx_errors.now
-        × (length recoverings.now ≡ length modes.now)
-        × (count ≤ length modes.now) }
-    ensures { result
-        ≡ tests.errors_suit (controllers_in modes.now requests.now marks.now)
-        (errors_in recoverings.now tx_errors.now rx_errors.now) count }
+    requires { count ≤ N }
+    ensures { result ≡ tests.errors_suit controllers.now errors.now count }
 {
     let mut ok = true;
     for c in 0..count {
-        let k = read_controller(modes, requests, marks, c);
-        let e = read_errors(recoverings, tx_errors, rx_errors, c);
+        let k = controllers.read(c);
+        let e = errors.read(c);
         ok = ok & errors_valid(k, e);
     }
     ok
 }
 
 // The errors of each other place are at rest.
-fn errors_rest(recoverings: &[bool], tx_errors: &[u32], rx_errors: &[u32], count: usize) -> bool
-    requires { Alike recoverings.now tx_errors.now rx_errors.now × (count ≤ length recoverings.now) }
-    ensures { result ≡ tests.errors_rest (errors_in recoverings.now tx_errors.now rx_errors.now) count }
+#[tactic(auto, using(crate::proofs::Laws::from_none, crate::proofs::Laws::from_more))]
+fn errors_rest<const N: usize>(errors: &ErrorPlaces<N>, count: usize) -> bool
+    requires { count ≤ N }
+    ensures { result ≡ tests.errors_rest errors.now count }
 {
     let mut ok = true;
-    for c in count..recoverings.len() {
-        let e = read_errors(recoverings, tx_errors, rx_errors, c);
+    for c in count..errors.len() {
+        let e = errors.read(c);
         ok = ok & errors_none(e);
     }
     ok
 }
 
 // The errors of every place, where so many controllers are in use.
-pub fn errors_places_valid(
+pub fn errors_places_valid<const N: usize>(
     controller_count: usize,
-    modes: &[u8],
-    requests: &[u8],
-    marks: &[bool],
-    recoverings: &[bool],
-    tx_errors: &[u32],
-    rx_errors: &[u32],
+    controllers: &Controllers<N>,
+    errors: &ErrorPlaces<N>,
 ) -> bool
-    requires { Alike modes.now requests.now marks.now
-        × Alike recoverings.now tx_errors.now rx_errors.now
-        × (length recoverings.now ≡ length modes.now) }
-    ensures { result
-        ≡ tests.errors_places_valid (length modes.now) controller_count
-        (controllers_in modes.now requests.now marks.now)
-        (errors_in recoverings.now tx_errors.now rx_errors.now) }
+    ensures { result ≡ tests.errors_places_valid N controller_count controllers.now errors.now }
 {
-    let end = limited(controller_count, modes.len());
-    let suit = errors_suit(
-        modes,
-        requests,
-        marks,
-        recoverings,
-        tx_errors,
-        rx_errors,
-        end,
-    );
-    let rest = errors_rest(recoverings, tx_errors, rx_errors, end);
+    let end = limited(controller_count, errors.len());
+    let suit = errors_suit(controllers, errors, end);
+    let rest = errors_rest(errors, end);
     suit & rest
 }

@@ -1,4 +1,4 @@
-// When a core is valid, tested on lent arrays with any number of places.
+// When a core is valid, tested on a lent core with any number of places.
 #![tactic(auto)]
 
 mod controllers;

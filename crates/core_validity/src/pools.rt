@@ -1,9 +1,9 @@
 // The pools of sending objects: whether any is shared at all; and object by object in rising order, the lowest member, and the test of an
 // object beside it.
-ghost use Rattle.std.specs.Prelude.{◌≡◌, ◌≤◌, ◌<◌, ◌^◌, cond, length};
-ghost use Rattle.core_places.specs.Arrays.{Alike};
+ghost use Rattle.std.specs.Prelude.{◌≡◌, ◌≤◌, ◌<◌, ◌^◌, cond};
 ghost use Rattle.core_validity.specs.Pools.{lowest_seen, table_with, pool_beside, own_pools};
 
+use core_places::owners::Owners;
 use core_places::range::limited;
 
 // The number of an object that is its own pool; 0 where it receives.
@@ -15,26 +15,29 @@ fn own_pool(receiving: bool, h: usize) -> u8
 }
 
 // Whether no pool is shared: each object is its own, under its own number, which is a byte.
-pub fn own_pools(receivings: &[bool], pools: &[u8], count: usize) -> bool
-    requires { (length receivings.now ≡ length pools.now) × (count ≤ length pools.now) × (count ≤ 2 ^ 8) }
-    ensures { result ≡ own_pools receivings.now pools.now count }
+#[tactic(auto, using(crate::proofs::Laws::all_below_more), unfolding(rules::specs::Repeat::all_below))]
+pub fn own_pools<const N: usize>(owners: &Owners<N>, count: usize) -> bool
+    requires { (count ≤ N) × (count ≤ 2 ^ 8) }
+    ensures { result ≡ own_pools owners.now count }
 {
     let mut ok = true;
     for h in 0..count {
-        ok = ok & (pools[h] == own_pool(receivings[h], h));
+        let o = owners.read(h);
+        ok = ok & (o.pool == own_pool(o.receiving, h));
     }
     ok
 }
 
 // The lowest member of object h's pool, where the table has it among the objects before h; the table then has it for those behind h too. The
 // object itself where it receives, or has a pool that the table has no place for.
-pub fn lowest_member(receivings: &[bool], pools: &[u8], table: &mut [usize], h: usize) -> usize
-    requires { (length receivings.now ≡ length pools.now) × (h < length pools.now) }
-    ensures { (result ≡ lowest_seen receivings.now pools.now table.old h)
-        × (table.new ≡ table_with receivings.now pools.now table.old h) }
+pub fn lowest_member<const N: usize>(owners: &Owners<N>, table: &mut [usize], h: usize) -> usize
+    requires { h < N }
+    ensures { (result ≡ lowest_seen owners.now table.old h)
+        × (table.new ≡ table_with owners.now table.old h) }
 {
-    let pool = pools[h] as usize;
-    if !receivings[h] & (pool < table.len()) {
+    let o = owners.read(h);
+    let pool = o.pool as usize;
+    if !o.receiving & (pool < table.len()) {
         let lowest = limited(table[pool], h);
         table[pool] = lowest;
         return lowest;
@@ -43,13 +46,14 @@ pub fn lowest_member(receivings: &[bool], pools: &[u8], table: &mut [usize], h: 
 }
 
 // The pool of object h: one of as many as there are places, with the controller of its lowest member; 0 where the object receives.
-pub fn pool_valid(owners: &[u8], receivings: &[bool], pools: &[u8], h: usize, lowest: usize) -> bool
-    requires { Alike owners.now receivings.now pools.now × (h < length owners.now) × (lowest < length owners.now) }
-    ensures { result ≡ pool_beside owners.now receivings.now pools.now h lowest }
+pub fn pool_valid<const N: usize>(owners: &Owners<N>, h: usize, lowest: usize) -> bool
+    requires { (h < N) × (lowest < N) }
+    ensures { result ≡ pool_beside N owners.now h lowest }
 {
-    let pool = pools[h] as usize;
-    if receivings[h] {
+    let o = owners.read(h);
+    let pool = o.pool as usize;
+    if o.receiving {
         return pool == 0;
     }
-    (pool < owners.len()) & (owners[h] == owners[lowest])
+    (pool < owners.len()) & (o.controller == owners.read(lowest).controller)
 }
