@@ -43,14 +43,13 @@ pub fn init(state: State, ram: &mut [u8], sheet: &mut [u32], bytes: &[u8]) -> Ca
         (verdict_reason result.verdict) no_answer (view result.state) result.notifications ram.new sheet.old sheet.new }
 {
     let reading = read(bytes);
-    let own = judge_init(state.initialised, reading.accepted);
+    let own = judge_init(state.initialised, reading.is_some());
     let gate = full_gate(valid(state), sheet.len(), SHEET_SIZE, ram.len(), RAM_SIZE);
     let verdict = then(gate, own);
     match verdict {
         Verdict::Accepted => {
             clear(ram);
-            let setup = reading.setup;
-            let next = configured_state(setup);
+            let next = configured_state(reading.unwrap().setup);
             Called {
                 state: next,
                 verdict: Verdict::Accepted,

@@ -1,6 +1,11 @@
 -- The byte string is the header of the rules.
+use mathlib.Core.Path.{◌∙◌}
+use lib.ListN.{take}
+use Rattle.rules.specs.Can.{header}
+use Rattle.can_config.proofs.Laws.{starts_same}
 use Rattle.can_config.proofs.header.header_matches.Goals as goal
 
 pub returns : goal.returns
 returns c =
-    rw (c.starts_with-starts.ensures, c.known_version-known.ensures, c.version_of.ensures, c.number_at-last.ensures)
+    let starts = c.starts_with-starts.ensures.value ∙ starts_same header (take 3 c.args.bytes.now) in
+    rw (starts, c.known_version-known.ensures, c.version_of.ensures, c.number_at-last.ensures)
