@@ -16,7 +16,9 @@ use Rattle.rules.specs.Chip.{chip}
 use Rattle.laws.proofs.Tests.{left, right, and_false}
 use Rattle.laws.proofs.Repeat.{get_or-list_below}
 use Rattle.core_validity.proofs.Laws.{and_pairs, all_below-and}
-use Rattle.can_config.specs.Reading.{records_valid, owner_said, settings_said, records_say, pools_judged}
+use Rattle.can_config.specs.declared.setup.Setup.{Setup}
+use Rattle.can_config.specs.View.{view_setup}
+use Rattle.can_config.specs.Reading.{records_valid, owner_said, settings_said, records_say, Records_said, pools_judged, Configuration_said}
 use Rattle.can_config.proofs.Laws.{all_in_use, filled}
 
 -- an unused place is at rest
@@ -97,7 +99,7 @@ module _ (bytes : List ℕ) where
     unfolding configuration_of
     said_by = rw (versions, controllers, objects)
 
-    pub judged_by : {front : Bool} → front ≡ outline k n → (front && (records_valid bytes v k n && pools_judged (records_say bytes v k n))) ≡ accepted_bytes chip can_format bytes
+    judged_by : {front : Bool} → front ≡ outline k n → (front && (records_valid bytes v k n && pools_judged (records_say bytes v k n))) ≡ accepted_bytes chip can_format bytes
     judged_by {front} e =
         ap (λ (c : Configuration can_format). front && (records_valid bytes v k n && pools_judged c)) said_by ∙ rw (e, versions, controllers, objects) judged
 
@@ -110,3 +112,22 @@ module _ (bytes : List ℕ) where
       let whole = eqb-true (length bytes) size (right (header_valid chip can_format bytes) (eqb (length bytes) size) (left front (counts_valid chip k n) e)) in
       let fits = right (leb 1 k && leb k chip.controllers) (leb n chip.objects) (right front (counts_valid chip k n) e) in
       (leb-true n chip.objects fits, omega arith)
+
+  -- what each test of the reader says of the whole, by counts that were read from the bytes
+  module _ {k n : ℕ} (controllers : k ≡ controllers_byte bytes) (objects : n ≡ objects_byte bytes) {front : Bool} (is : front ≡ outline k n) where
+    pub outline_refused : front ≡ false → accepted_bytes chip can_format bytes ≡ false
+    outline_refused refused = sym (rw refused at (judged_by {v = version} refl controllers objects is))
+
+    module _ (holds : front ≡ true) {v : ℕ} (versions : v ≡ version) where
+      pub records_refused : records_valid bytes v k n ≡ false → accepted_bytes chip can_format bytes ≡ false
+      records_refused invalid = sym (rw (holds, invalid) at (judged_by versions controllers objects is))
+
+      module _ {s : Setup} (read : Records_said bytes v k n s) where
+        pub pools_left : accepted_bytes chip can_format bytes ≡ pools_judged (view_setup s)
+        pools_left = sym (rw (holds, read.valid) at (judged_by versions controllers objects is)) ∙ ap pools_judged (sym read.setup)
+
+        pub all_said : pools_judged (view_setup s) ≡ true → Configuration_said bytes (record { version = v; setup = s })
+        all_said agree = record { accepted = pools_left ∙ agree; version_read = versions; setup = read.setup ∙ said_by versions controllers objects }
+
+-- what says that the bytes are not accepted
+pub ruleset refusals = (outline_refused, records_refused, pools_left)

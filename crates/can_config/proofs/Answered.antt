@@ -1,6 +1,5 @@
 -- What the reader answers: a reading exactly where the bytes are accepted, of what they say.
 use mathlib.Core.Path.{◌≡◌, sym}
-use mathlib.Core.Bool.{Bool}
 use mathlib.Core.List.{List}
 use Prim.Native.Nat.{ℕ}
 use Rattle.std.specs.Prelude.{Option, Some, None, is_some}

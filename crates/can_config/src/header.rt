@@ -1,7 +1,8 @@
 // The first bytes of a configuration: a fixed string, the version, the two counts, and a zero byte.
-ghost use Rattle.std.specs.Prelude.{◌≡◌};
+ghost use Rattle.std.specs.Prelude.{◌≡◌, length, take};
+ghost use Rattle.rules.specs.Bytes.{same_bytes};
 ghost use Rattle.rules.specs.Configuration.{version_of, header_valid};
-ghost use Rattle.rules.specs.Can.{can_format, known_version};
+ghost use Rattle.rules.specs.Can.{can_format, header, known_version};
 ghost use Rattle.rules.specs.Chip as rules;
 
 use core_places::at::number_at;
@@ -34,12 +35,18 @@ pub fn known_version(version: u32) -> bool
     (version == 1) | (version == 2)
 }
 
+// Whether the bytes begin with "CHB".
+pub fn mark_matches(bytes: &[u8]) -> bool
+    ensures { result ≡ same_bytes (take (length header) bytes.now) header }
+{
+    bytes.starts_with(b"CHB")
+}
+
 // Whether the bytes begin with "CHB" and a version that there is, and have a zero byte after the counts.
 pub fn header_matches(bytes: &[u8]) -> bool
     ensures { result ≡ header_valid rules.chip can_format bytes.now }
 {
-    let starts = bytes.starts_with(b"CHB");
     let known = known_version(version_of(bytes));
     let last = number_at(bytes, ZERO_AT);
-    starts & known & (last == 0)
+    mark_matches(bytes) & known & (last == 0)
 }

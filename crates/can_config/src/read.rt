@@ -10,6 +10,7 @@ use core_places::at::number_at;
 
 // Reads a configuration from bytes of any length; none where Init does not accept them. No record is read before it is known that the bytes
 // hold exactly the records.
+#[tactic(auto, using(crate::proofs::Accepted::refusals))]
 pub fn read(bytes: &[u8]) -> Option<Reading>
     ensures { Configuration_read bytes.now result }
 {
