@@ -1,5 +1,7 @@
 -- Laws that proofs of this crate cite.
 pub mod Laws
 mod Codes
+mod Judged
 pub mod Sizes
 pub mod Accepted
+pub mod Answered

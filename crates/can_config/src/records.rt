@@ -5,17 +5,17 @@ ghost use Rattle.rules.specs.Can.{can_format};
 ghost use Rattle.rules.specs.Chip as rules;
 ghost use Rattle.can_config.specs.Reading.{Records_read};
 
-use crate::record::read_record;
-use crate::setup::{Reading, Setup};
+use crate::record::{read_record, record_valid};
+use crate::setup::Setup;
 use can_chip::OBJECTS;
 
-// Reads and judges one record after the other; the places after the last one are at rest.
+// Reads and judges one record after the other, up to one that Init does not accept; the places after the last one are at rest.
 pub fn read_records(
     bytes: &[u8],
     version: u32,
     controller_count: usize,
     object_count: usize,
-) -> Reading
+) -> Option<Setup>
     requires { (object_count ≤ (rules.chip).objects) × (header_size + can_format.record_size * object_count ≤ length bytes.now) }
     ensures { Records_read bytes.now version controller_count object_count result }
 {
@@ -26,34 +26,28 @@ pub fn read_records(
     let mut paddings = [0; OBJECTS];
     let mut codes = [0; OBJECTS];
     let mut masks = [0; OBJECTS];
-    let mut ok = true;
     for h in 0..object_count {
-        let record = read_record(bytes, version, controller_count, h);
-        let owner = record.owner;
-        let settings = record.settings;
-        owners[h] = owner.controller;
-        receivings[h] = owner.receiving;
-        pools[h] = owner.pool;
-        payloads[h] = settings.payload;
-        paddings[h] = settings.padding;
-        codes[h] = settings.code;
-        masks[h] = settings.mask;
-        ok = ok & record.valid;
+        let record = read_record(bytes, version, h);
+        if !record_valid(controller_count, record) {
+            return None;
+        }
+        owners[h] = record.owner.controller;
+        receivings[h] = record.owner.receiving;
+        pools[h] = record.owner.pool;
+        payloads[h] = record.settings.payload;
+        paddings[h] = record.settings.padding;
+        codes[h] = record.settings.code;
+        masks[h] = record.settings.mask;
     }
-    let setup = Setup {
-        controller_count: controller_count,
-        object_count: object_count,
-        owners: owners,
-        receivings: receivings,
-        pools: pools,
-        payloads: payloads,
-        paddings: paddings,
-        codes: codes,
-        masks: masks,
-    };
-    Reading {
-        accepted: ok,
-        version: version,
-        setup: setup,
-    }
+    Some(Setup {
+        controller_count,
+        object_count,
+        owners,
+        receivings,
+        pools,
+        payloads,
+        paddings,
+        codes,
+        masks,
+    })
 }
