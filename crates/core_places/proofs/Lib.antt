@@ -1,2 +1,3 @@
--- Laws of places in lent arrays.
+-- Laws of places, and that a struct of arrays hides none.
 pub mod Laws
+pub mod Injective
