@@ -18,7 +18,7 @@ use Rattle.rules.specs.Chip.{chip}
 use Rattle.laws.proofs.Tests.{right}
 use Rattle.laws.proofs.Splices.{splice_then}
 use Rattle.laws.proofs.Bytes.{concat-length}
-use Rattle.laws.proofs.Configurations.{placed}
+use Rattle.laws.proofs.Configurations.{placed, say_facts}
 use Rattle.can_writer.specs.Records.{record_at}
 
 -- the header has its size, and every record has
@@ -72,3 +72,9 @@ module _ (version : ℕ) (c : Configuration can_format) where
         lt-ltb c.controller_count 256 (omega (arith, p.controllers_within)),
         lt-ltb c.object_count 256 (omega (arith, p.within)),
       )
+
+-- What a version says has no more in use than there are places.
+pub said_within : (version : ℕ) (c : Configuration can_format) → can_say chip can_format version c ≡ true → (c.controller_count ≤ chip.controllers) × (c.object_count ≤ chip.objects)
+said_within version c said =
+    let p = placed chip can_format c (say_facts chip can_format version c said).valid in
+    (p.controllers_within, p.within)

@@ -1,5 +1,5 @@
 // What a version can say: a configuration that Init accepts, with records that say each object.
-ghost use Rattle.std.specs.Prelude.{◌≡◌, length};
+ghost use Rattle.std.specs.Prelude.{◌≡◌, ◌≤◌, true, length};
 ghost use Rattle.rules.specs.Configuration.{configuration_valid};
 ghost use Rattle.rules.specs.Writer as writer;
 ghost use Rattle.rules.specs.Can.{can_format};
@@ -34,7 +34,8 @@ fn configuration_valid(setup: &Setup) -> bool
 
 // Whether the version is known and says the configuration. No record is looked at before it is known how many there are.
 pub fn can_say(version: u32, setup: &Setup) -> bool
-    ensures { result ≡ writer.can_say chip can_format version (view_setup setup.now) }
+    ensures said { result ≡ writer.can_say chip can_format version (view_setup setup.now) }
+    ensures within { result ≡ true → (setup.now.controller_count ≤ chip.controllers) × (setup.now.object_count ≤ chip.objects) }
 {
     let known = known_version(version);
     let valid = configuration_valid(setup);
