@@ -2,6 +2,5 @@
 pub mod Laws
 mod Codes
 mod Judged
-pub mod Sizes
 pub mod Accepted
 pub mod Answered

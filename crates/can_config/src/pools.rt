@@ -7,17 +7,9 @@ ghost use Rattle.can_config.specs.Reading.{pools_judged};
 use crate::setup::Setup;
 
 // Whether each pool is valid and its members agree in controller, payload and padding.
-#[tactic(auto, using(crate::proofs::Sizes::sizes, can_state::proofs::Laws::settings_carried))]
-pub fn pools_agree(setup: Setup) -> bool
-    requires { setup.object_count ≤ (rules.chip).objects }
-    ensures { result ≡ pools_judged (view_setup setup) }
+pub fn pools_agree(setup: &Setup) -> bool
+    requires { setup.now.object_count ≤ (rules.chip).objects }
+    ensures { result ≡ pools_judged (view_setup setup.now) }
 {
-    can_state::agreement::pools_agree(
-        &setup.owners,
-        &setup.receivings,
-        &setup.pools,
-        &setup.payloads,
-        &setup.paddings,
-        setup.object_count,
-    )
+    can_state::agreement::pools_agree(&setup.owners, &setup.settings, setup.object_count)
 }

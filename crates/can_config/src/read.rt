@@ -21,7 +21,7 @@ pub fn read(bytes: &[u8]) -> Option<Reading>
     }
     let version = version_of(bytes);
     let setup = read_records(bytes, version, controller_count, object_count)?;
-    if pools_agree(setup) {
+    if pools_agree(&setup) {
         Some(Reading { version, setup })
     } else {
         None

@@ -1,21 +1,16 @@
 // What is read of a configuration.
 use can_chip::OBJECTS;
+use can_state::settings_places::SettingsPlaces;
+use core_places::owners::Owners;
 
-// How many controllers and objects are in use, and for each object's place what its record says: an array for each field, as the state
-// has them.
+// How many controllers and objects are in use, and for each object's place what its record says, as the state has them.
 #[derive(Clone, Copy)]
 pub struct Setup {
     pub controller_count: usize,
     pub object_count: usize,
-    // Its controller, whether it receives, and its pool;
-    pub owners: [u8; OBJECTS],
-    pub receivings: [bool; OBJECTS],
-    pub pools: [u8; OBJECTS],
-    // what is configured of its frames.
-    pub payloads: [u8; OBJECTS],
-    pub paddings: [u8; OBJECTS],
-    pub codes: [u32; OBJECTS],
-    pub masks: [u32; OBJECTS],
+    // Whose each object is, and what is configured of its frames.
+    pub owners: Owners<OBJECTS>,
+    pub settings: SettingsPlaces<OBJECTS>,
 }
 
 // What accepted bytes say: their version, and the configuration.

@@ -46,7 +46,8 @@ pub fn init(state: State, ram: &mut [u8], sheet: &mut [u32], bytes: &[u8]) -> Ca
         (verdict_reason result.reply) no_answer (view result.state) result.notifications ram.new sheet.old sheet.new }
 {
     let gate = full_gate(valid(state), sheet.len(), SHEET_SIZE, ram.len(), RAM_SIZE);
-    match gate.and(judge_init(state.initialised, bytes)) {
+    let core = &state.core;
+    match gate.and(judge_init(core.initialised, bytes)) {
         Ok(setup) => {
             clear(ram);
             Called {

@@ -1,11 +1,11 @@
--- The records of a configuration: how long each is, one more of them, and what they can say of numbers that fit.
-use Prim.Native.Nat.{ℕ, ◌+◌, ◌*◌, ◌≤◌, ◌<◌, ◌^◌}
+-- The records of a configuration: how long each is, one more of them, and when a version can say it.
+use Prim.Native.Nat.{ℕ, ◌+◌, ◌*◌, ◌≤◌}
 use mathlib.Core.Path.{◌≡◌, refl}
-use mathlib.Core.Bool.{Bool, true, false, not, cond, ◌&&◌, ◌||◌, and-true}
+use mathlib.Core.Bool.{Bool, true, false, not, cond, ◌&&◌}
 use mathlib.Core.List.{List, [], ◌∷◌, ◌++◌}
 use native.Mathlib.Omega.{arith}
 use native.Mathlib.Numerals.{add-one}
-use lib.ListN.{length, get_or}
+use lib.ListN.{length}
 use lib.Dec.{eqb}
 use borrow.Author.Tests.{eq-eqb, lt-ltb}
 use Rattle.rules.specs.Repeat.{all_below, concat_below}
@@ -18,13 +18,8 @@ use Rattle.rules.specs.Chip.{chip}
 use Rattle.laws.proofs.Tests.{right}
 use Rattle.laws.proofs.Splices.{splice_then}
 use Rattle.laws.proofs.Bytes.{concat-length}
-use Rattle.laws.proofs.Configurations.{placed}
-use Rattle.core_places.specs.Arrays.{Alike, owners_in}
-use Rattle.core_places.proofs.Laws.{owner_seen}
-use Rattle.can_state.specs.View.{settings_in}
-use Rattle.can_state.specs.Tests.{SettingsAlike}
-use Rattle.can_state.proofs.Laws.{settings_seen}
-use Rattle.can_writer.specs.Records.{record_at, says_at}
+use Rattle.laws.proofs.Configurations.{placed, say_facts}
+use Rattle.can_writer.specs.Records.{record_at}
 
 -- the header has its size, and every record has
 pub header_whole : (version controller_count object_count : ℕ)
@@ -56,33 +51,6 @@ module _ (version : ℕ) (os : List Owner) (ss : List Settings) where
       (splice_then header_size (header_size + size * h) (concat_below h (record_at version os ss)) (record_at version os ss h) buffer before
       (rw is at after) (omega arith) room)
 
--- numbers of the types that the code has for them
-pub record Fitting (owners pools payloads paddings codes masks : List ℕ) : Type 0 where
-  pub owners_fit : (h : ℕ) → get_or owners h 0 < 2 ^ 8
-  pub pools_fit : (h : ℕ) → get_or pools h 0 < 2 ^ 8
-  pub payloads_fit : (h : ℕ) → get_or payloads h 0 < 2 ^ 8
-  pub paddings_fit : (h : ℕ) → get_or paddings h 0 < 2 ^ 8
-  pub codes_fit : (h : ℕ) → get_or codes h 0 < 2 ^ 32
-  pub masks_fit : (h : ℕ) → get_or masks h 0 < 2 ^ 32
-
--- all that a record may be unable to say of them is a pool, in version 1
-pub says_pools : (version : ℕ) (owners : List ℕ) (receivings : List Bool) (pools payloads paddings codes masks : List ℕ) → Alike owners receivings pools
-    → SettingsAlike payloads paddings codes masks → Fitting owners pools payloads paddings codes masks → (h : ℕ)
-    → says_at version (owners_in owners receivings pools) (settings_in payloads paddings codes masks) h
-    ≡ cond (eqb version 2) true (get_or receivings h false || eqb (get_or pools h 0) h)
-says_pools version owners receivings pools payloads paddings codes masks alike settings fit h =
-    rw (
-      owner_seen owners receivings pools h alike,
-      settings_seen payloads paddings codes masks settings h,
-      lt-ltb (get_or pools h 0) 256 (fit.pools_fit h),
-      lt-ltb (get_or owners h 0) 256 (fit.owners_fit h),
-      lt-ltb (get_or payloads h 0) 256 (fit.payloads_fit h),
-      lt-ltb (get_or paddings h 0) 256 (fit.paddings_fit h),
-      lt-ltb (get_or codes h 0) (2 ^ 32) (fit.codes_fit h),
-      lt-ltb (get_or masks h 0) (2 ^ 32) (fit.masks_fit h),
-    )
-    (and-true (cond (eqb version 2) true (get_or receivings h false || eqb (get_or pools h 0) h)))
-
 -- A known version says a valid configuration that has the chip's places, if its records do.
 module _ (version : ℕ) (c : Configuration can_format) where
   abbrev pub allowed : Bool
@@ -104,3 +72,9 @@ module _ (version : ℕ) (c : Configuration can_format) where
         lt-ltb c.controller_count 256 (omega (arith, p.controllers_within)),
         lt-ltb c.object_count 256 (omega (arith, p.within)),
       )
+
+-- What a version says has no more in use than there are places.
+pub said_within : (version : ℕ) (c : Configuration can_format) → can_say chip can_format version c ≡ true → (c.controller_count ≤ chip.controllers) × (c.object_count ≤ chip.objects)
+said_within version c said =
+    let p = placed chip can_format c (say_facts chip can_format version c said).valid in
+    (p.controllers_within, p.within)

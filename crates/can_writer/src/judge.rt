@@ -1,97 +1,46 @@
 // What a version can say: a configuration that Init accepts, with records that say each object.
-ghost use Rattle.std.specs.Prelude.{◌≡◌, length};
+ghost use Rattle.std.specs.Prelude.{◌≡◌, ◌≤◌, true, length};
 ghost use Rattle.rules.specs.Configuration.{configuration_valid};
 ghost use Rattle.rules.specs.Writer as writer;
 ghost use Rattle.rules.specs.Can.{can_format};
-ghost use Rattle.rules.specs.Chip as rules;
-ghost use Rattle.core_places.specs.Arrays.{Alike};
-ghost use Rattle.can_state.specs.Tests.{SettingsAlike};
-ghost use Rattle.can_writer.specs.Records.{configured};
+ghost use Rattle.rules.specs.Chip.{chip};
+ghost use Rattle.can_config.specs.View.{view_setup};
 
 use crate::owners::owners_valid;
 use crate::sayable::records_say;
 use can_chip::{CONTROLLERS, OBJECTS};
 use can_config::header::known_version;
+use can_config::setup::Setup;
 use can_state::agreement::pools_agree;
 use can_state::settings::settings_places_valid;
 use core_validity::counts::counts_valid;
 
-// Whether Init accepts the configuration that stands in these arrays.
-fn configuration_valid(
-    controller_count: usize,
-    object_count: usize,
-    owners: &[u8],
-    receivings: &[bool],
-    pools: &[u8],
-    payloads: &[u8],
-    paddings: &[u8],
-    codes: &[u32],
-    masks: &[u32],
-) -> bool
-    requires { Alike owners.now receivings.now pools.now
-        × SettingsAlike payloads.now paddings.now codes.now masks.now
-        × (length owners.now ≡ (rules.chip).objects)
-        × (length payloads.now ≡ (rules.chip).objects) }
-    ensures { result
-        ≡ configuration_valid rules.chip can_format
-        (configured controller_count object_count owners.now receivings.now pools.now payloads.now
-        paddings.now codes.now masks.now) }
+// Whether Init accepts the configuration.
+fn configuration_valid(setup: &Setup) -> bool
+    ensures valid { result ≡ configuration_valid chip can_format (view_setup setup.now) }
+    ensures places { (length setup.now.owners ≡ chip.objects) × (length setup.now.settings ≡ chip.objects) }
 {
-    if !counts_valid(CONTROLLERS, OBJECTS, controller_count, object_count) {
-        return false;
-    }
-    let owned = owners_valid(controller_count, object_count, owners, receivings, pools);
-    let suited = settings_places_valid(object_count, receivings, payloads, paddings, codes, masks);
-    let pooled = pools_agree(owners, receivings, pools, payloads, paddings, object_count);
-    owned & suited & pooled
+    let counted = counts_valid(
+        CONTROLLERS,
+        OBJECTS,
+        setup.controller_count,
+        setup.object_count,
+    );
+    let owned = owners_valid(setup.controller_count, setup.object_count, &setup.owners);
+    let suited = settings_places_valid(setup.object_count, &setup.owners, &setup.settings);
+    let pooled = pools_agree(&setup.owners, &setup.settings, setup.object_count);
+    counted & owned & suited & pooled
 }
 
-// Whether the version is known and says the configuration that stands in these arrays.
-pub fn can_say(
-    version: u32,
-    controller_count: usize,
-    object_count: usize,
-    owners: &[u8],
-    receivings: &[bool],
-    pools: &[u8],
-    payloads: &[u8],
-    paddings: &[u8],
-    codes: &[u32],
-    masks: &[u32],
-) -> bool
-    requires { Alike owners.now receivings.now pools.now
-        × SettingsAlike payloads.now paddings.now codes.now masks.now
-        × (length owners.now ≡ (rules.chip).objects)
-        × (length payloads.now ≡ (rules.chip).objects) }
-    ensures { result
-        ≡ writer.can_say rules.chip can_format version
-        (configured controller_count object_count owners.now receivings.now pools.now payloads.now
-        paddings.now codes.now masks.now) }
+// Whether the version is known and says the configuration. No record is looked at before it is known how many there are.
+pub fn can_say(version: u32, setup: &Setup) -> bool
+    ensures said { result ≡ writer.can_say chip can_format version (view_setup setup.now) }
+    ensures within { result ≡ true → (setup.now.controller_count ≤ chip.controllers) × (setup.now.object_count ≤ chip.objects) }
 {
     let known = known_version(version);
-    let valid = configuration_valid(
-        controller_count,
-        object_count,
-        owners,
-        receivings,
-        pools,
-        payloads,
-        paddings,
-        codes,
-        masks,
-    );
+    let valid = configuration_valid(setup);
     if !(known & valid) {
         return false;
     }
-    records_say(
-        version,
-        owners,
-        receivings,
-        pools,
-        payloads,
-        paddings,
-        codes,
-        masks,
-        object_count,
-    )
+    records_say(version, setup)
 }

@@ -10,22 +10,11 @@ use can_state::state::State;
 pub fn configuration_of(state: State) -> Setup
     ensures { view_setup result ≡ configuration_in (view state) }
 {
-    let owners = state.owners;
-    let receivings = state.receivings;
-    let pools = state.pools;
-    let payloads = state.payloads;
-    let paddings = state.paddings;
-    let codes = state.codes;
-    let masks = state.masks;
+    let core = state.core;
     Setup {
-        controller_count: state.controller_count,
-        object_count: state.object_count,
-        owners: owners,
-        receivings: receivings,
-        pools: pools,
-        payloads: payloads,
-        paddings: paddings,
-        codes: codes,
-        masks: masks,
+        controller_count: core.controller_count,
+        object_count: core.object_count,
+        owners: core.owners,
+        settings: state.settings,
     }
 }

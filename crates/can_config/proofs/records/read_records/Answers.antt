@@ -8,16 +8,14 @@ use Rattle.rules.specs.Configuration.{object_record}
 use Rattle.rules.specs.Can.{can_format, unused_settings}
 use Rattle.rules.specs.Chip.{chip}
 use Rattle.laws.proofs.Repeat.{all_below_more}
-use Rattle.core_places.specs.Arrays.{zip_with}
-use Rattle.core_places.proofs.Laws.{zip_3_set, zip_4_set}
 use Rattle.can_config.specs.Reading.{record_valid, owner_said, settings_said}
 use Rattle.can_config.proofs.Laws.{all_below_fails, fill_more}
 use Rattle.can_config.proofs.Judged.{valid_said}
 use Rattle.can_config.proofs.records.read_records.Goals as goal
 
 pub loop-h-init : goal.loop-h-init
-unfolding all_below list_below zip_with
-loop-h-init c = record { passed = omega arith; valid = refl; owners = refl; settings = refl }
+unfolding all_below list_below
+loop-h-init c = record { valid = refl; owners = c.unused-owners.ensures; settings = c.unused-settings.ensures }
 
 pub returns-then-not-record_valid : goal.returns-then-not-record_valid
 returns-then-not-record_valid c =
@@ -34,14 +32,8 @@ loop-h-preserved c =
     let read = c.read_record-record.ensures in
     let judged = c.record_valid.ensures ∙ valid_said a.controller_count read in
     let valid : ℕ → Bool = λ h. record_valid a.version h a.controller_count (object_record chip can_format a.bytes.now h) in
-    let said = c.read_record-record.result in
     record {
-      passed = omega arith;
       valid = sym (all_below_more valid at.h (sym at.invariant.valid) (sym c.if-not-record_valid.false ∙ judged));
-      owners =
-          zip_3_set _ at.owners at.receivings at.pools at.h said.owner.controller said.owner.receiving said.owner.pool
-          ∙ fill_more chip.objects at.h (owner_said a.bytes.now a.version) unused_owner (omega arith) at.invariant.owners read.owner;
-      settings =
-          zip_4_set _ at.payloads at.paddings at.codes at.masks at.h said.settings.payload said.settings.padding said.settings.code said.settings.mask
-          ∙ fill_more chip.objects at.h (settings_said a.bytes.now a.version) unused_settings (omega arith) at.invariant.settings read.settings;
+      owners = c.set.ensures ∙ fill_more chip.objects at.h (owner_said a.bytes.now a.version) unused_owner (omega arith) at.invariant.owners read.owner;
+      settings = c.set-in-loop-h.ensures ∙ fill_more chip.objects at.h (settings_said a.bytes.now a.version) unused_settings (omega arith) at.invariant.settings read.settings;
     }
