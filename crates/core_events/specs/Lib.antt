@@ -3,4 +3,3 @@
 pub mod Checks
 pub mod Pick
 pub mod Next
-pub mod Counted

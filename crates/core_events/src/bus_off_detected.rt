@@ -1,19 +1,15 @@
 // 01's Bus-off: a controller went off the bus.
-ghost use Rattle.std.specs.Prelude.{◌≡◌, List, [], ℕ, ◌≤◌, length};
-ghost use Rattle.rules.specs.Core.{Core, with_controllers};
+ghost use Rattle.std.specs.Prelude.{◌≡◌, List, [], ℕ, ◌≤◌};
 ghost use Rattle.rules.specs.Outcome.{no_answer};
 ghost use Rattle.rules.specs.Events as rules;
-ghost use Rattle.core_places.specs.View.{view_controller};
-ghost use Rattle.core_places.specs.Arrays.{Alike, controllers_in};
-ghost use Rattle.core_places.specs.Held.{Controlled};
+ghost use Rattle.core_places.specs.View.{view_controller, view_core};
 ghost use Rattle.core_answers.specs.Answer.{verdict_reason};
 ghost use Rattle.core_answers.specs.Performed.{Performed};
 
 use crate::on_bus::judge_on_bus;
 use core_answers::verdict::Verdict;
-use core_places::at::controller_at;
 use core_places::controller::Controller;
-use core_places::store::set_controller;
+use core_places::core_state::Core;
 
 // The controller with the off-bus mark; its mode and its request stay until the bus-off poll.
 pub fn marked_bus_off(k: Controller) -> Controller
@@ -27,25 +23,20 @@ pub fn marked_bus_off(k: Controller) -> Controller
 }
 
 // Marks the controller as off the bus. Any number may be named.
-pub fn bus_off_detected(
+pub fn bus_off_detected<const C: usize, const O: usize>(
     gate: Verdict,
-    initialised: bool,
-    count: usize,
-    modes: &mut [u8],
-    requests: &mut [u8],
-    marks: &mut [bool],
+    core: &mut Core<C, O>,
     controller: u32,
 ) -> Verdict
-    requires { Alike modes.old requests.old marks.old × (verdict_reason gate ≡ 0 → count ≤ length modes.old) }
-    ensures { (core : Core) (ram : List ℕ)
-        → Controlled core initialised count (controllers_in modes.old requests.old marks.old)
-        → Performed (rules.bus_off_detected (verdict_reason gate) core ram controller) (verdict_reason result) no_answer
-        (with_controllers core (controllers_in modes.new requests.new marks.new)) 0 ram [] [] }
+    requires { verdict_reason gate ≡ 0 → core.old.controller_count ≤ C }
+    ensures { (ram : List ℕ)
+        → Performed (rules.bus_off_detected (verdict_reason gate) (view_core core.old) ram controller)
+        (verdict_reason result) no_answer (view_core core.new) 0 ram [] [] }
 {
     let c = controller as usize;
-    let k = controller_at(modes, requests, marks, c);
-    let in_use = c < count;
-    gate.and(judge_on_bus(initialised, in_use, k))?;
-    set_controller(modes, requests, marks, c, marked_bus_off(k));
+    let k = core.controllers.at(c);
+    let in_use = c < core.controller_count;
+    gate.and(judge_on_bus(core.initialised, in_use, k))?;
+    core.controllers.set(c, marked_bus_off(k));
     Ok(())
 }

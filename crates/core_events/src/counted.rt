@@ -18,6 +18,7 @@ use core_places::errors::{
 };
 
 // Reason 43: both counts are numbers that can be kept.
+#[tactic(auto, unfolding(rules::specs::Reason::first_reason))]
 pub fn judge_counts(tx: u32, rx: u32) -> Verdict
     ensures { verdict_reason result ≡ first_reason (ERROR_COUNT_TOO_LARGE if not (within_limit tx rx) ∷ []) }
 {

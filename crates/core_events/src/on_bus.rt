@@ -10,6 +10,7 @@ use core_answers::verdict::Verdict;
 use core_places::controller::{Controller, STARTED};
 
 // The driver is initialised, the controller is in use and STARTED, and it is not off the bus.
+#[tactic(auto, unfolding(rules::specs::Reason::first_reason))]
 pub fn judge_on_bus(initialised: bool, in_use: bool, k: Controller) -> Verdict
     ensures { verdict_reason result ≡ first_reason (on_bus_checks initialised in_use (view_controller k)) }
 {

@@ -1,5 +1,5 @@
--- The gate's verdict and the event's own are the rules' reason, since what is read stands at its place. The controller of an accepted event is
--- in use, and is stored there with its counts; a refused one leaves everything as it was.
+-- The gate's verdict and the event's own are the rules' reason. The controller of an accepted event is in use, and is stored there with its
+-- counts; a refused one leaves everything as it was.
 use Prim.Native.Nat.{ℕ, ◌<◌}
 use mathlib.Core.Path.{◌≡◌, refl, sym, ap, ap₂, ◌∙◌}
 use mathlib.Core.Bool.{Bool, not}
@@ -14,7 +14,7 @@ use Rattle.rules.specs.Outcome.{no_answer, no_report}
 use Rattle.rules.specs.Events.{errors_counted, counted_controller, counted_errors}
 use Rattle.laws.proofs.Tests.{not_false}
 use Rattle.laws.proofs.Reasons.{then_first, then_second, check_passed}
-use Rattle.core_places.specs.View.{view_controller}
+use Rattle.core_places.specs.View.{view_controller, view_core}
 use Rattle.core_places.proofs.Laws.{controller_changed, errors_changed}
 use Rattle.core_answers.specs.Answer.{verdict_reason}
 use Rattle.core_answers.proofs.Laws.{behind, reason_named, noted_none, told_performed, refused_performed}
@@ -38,43 +38,47 @@ passed gate transmit receive c count initialised k none =
     (then_first gate own none, ltb-true c count (not_false (ltb c count) (check_passed 1 checks refl on_bus)))
 
 pub report_passive-notifications-requires : goal.report_passive-notifications-requires
-report_passive-notifications-requires c =
+report_passive-notifications-requires g c =
     let a = c.args in
+    let core = a.core.now in
     let found = behind _ _ c.and.ensures refl (behind _ _ c.and-own.ensures c.judge_on_bus.ensures c.judge_counts.ensures) in
-    let none = passed (verdict_reason a.gate) a.transmit a.receive a.controller a.count a.initialised (view_controller c.controller_at-k.result) (sym found ∙ ap verdict_reason c.in-Ok.is) in
-    (c.requires.2 none.0).sheet_fits
+    let none = passed (verdict_reason a.gate) a.transmit a.receive a.controller core.controller_count core.initialised (view_controller c.at-k.result) (sym found ∙ ap verdict_reason c.in-Ok.is) in
+    (c.requires none.0).1
 
-pub set_controller-requires : goal.set_controller-requires
-set_controller-requires c =
+pub set-requires : goal.set-requires
+set-requires g c =
     let a = c.args in
+    let core = a.core.now in
     let found = behind _ _ c.and.ensures refl (behind _ _ c.and-own.ensures c.judge_on_bus.ensures c.judge_counts.ensures) in
-    let none = passed (verdict_reason a.gate) a.transmit a.receive a.controller a.count a.initialised (view_controller c.controller_at-k.result) (sym found ∙ ap verdict_reason c.in-Ok.is) in
-    (omega (arith, none.1, (c.requires.2 none.0).controllers_fit), c.requires.0)
+    let none = passed (verdict_reason a.gate) a.transmit a.receive a.controller core.controller_count core.initialised (view_controller c.at-k.result) (sym found ∙ ap verdict_reason c.in-Ok.is) in
+    (omega arith, omega (arith, none.1, (c.requires none.0).0))
 
-pub set_errors-requires : goal.set_errors-requires
-set_errors-requires c =
+pub set-requires-in-Ok : goal.set-requires-in-Ok
+set-requires-in-Ok g c =
     let a = c.args in
+    let core = a.core.now in
     let found = behind _ _ c.and.ensures refl (behind _ _ c.and-own.ensures c.judge_on_bus.ensures c.judge_counts.ensures) in
-    let none = passed (verdict_reason a.gate) a.transmit a.receive a.controller a.count a.initialised (view_controller c.controller_at-k.result) (sym found ∙ ap verdict_reason c.in-Ok.is) in
-    (omega (arith, none.1, (c.requires.2 none.0).errors_fit), c.requires.1)
+    let none = passed (verdict_reason a.gate) a.transmit a.receive a.controller core.controller_count core.initialised (view_controller c.at-k.result) (sym found ∙ ap verdict_reason c.in-Ok.is) in
+    (omega arith, omega (arith, none.1, (c.requires none.0).0))
 
 pub returns-in-Ok : goal.returns-in-Ok
 unfolding errors_counted
-returns-in-Ok c core ram held errors =
+returns-in-Ok g c ram =
     let a = c.args in
-    let k = c.controller_at-k.ensures in
-    let e = c.errors_at-e.ensures in
-    let found = behind _ _ c.and.ensures refl (behind _ _ c.and-own.ensures (c.judge_on_bus.ensures ∙ on_bus_read a.controller held k) c.judge_counts.ensures) in
+    let core = view_core a.core.now in
+    let k = c.at-k.ensures in
+    let e = c.at-e.ensures in
+    let found = behind _ _ c.and.ensures refl (behind _ _ c.and-own.ensures (c.judge_on_bus.ensures ∙ on_bus_read core a.controller k) c.judge_counts.ensures) in
     told_performed _ no_report no_answer core ram no_answer _ ram _ (sym (ap verdict_reason c.in-Ok.is) ∙ found) refl refl
     (ap₂ (λ (ks : List Controller) (es : List Errors). with_errors (with_controllers core ks) es)
-    (controller_changed (counted_controller a.transmit) a.controller held.controllers_are k c.counted_controller.ensures c.set_controller.ensures)
-    (errors_changed (counted_errors a.transmit a.receive) a.controller errors e c.counted_errors.ensures c.set_errors.ensures))
-    refl (rw (held.controllers_are, errors, ← k, ← e) c.report_passive-notifications.ensures)
+    (controller_changed (counted_controller a.transmit) a.controller refl k c.counted_controller.ensures c.set.ensures)
+    (errors_changed (counted_errors a.transmit a.receive) a.controller refl e c.counted_errors.ensures c.set-in-Ok.ensures))
+    refl (rw (← k, ← e) c.report_passive-notifications.ensures)
 
 pub returns-in-Err : goal.returns-in-Err
 unfolding errors_counted
-returns-in-Err c core ram held errors =
+returns-in-Err g c ram =
     let a = c.args in
-    let found = behind _ _ c.and.ensures refl (behind _ _ c.and-own.ensures (c.judge_on_bus.ensures ∙ on_bus_read a.controller held c.controller_at-k.ensures) c.judge_counts.ensures) in
-    refused_performed _ no_report no_answer core ram _ (sym (ap verdict_reason c.in-Err.is) ∙ found) (reason_named _)
-    (sym (ap₂ (λ (ks : List Controller) (es : List Errors). with_errors (with_controllers core ks) es) held.controllers_are errors)) (noted_none a.sheet.now)
+    let core = view_core a.core.now in
+    let found = behind _ _ c.and.ensures refl (behind _ _ c.and-own.ensures (c.judge_on_bus.ensures ∙ on_bus_read core a.controller c.at-k.ensures) c.judge_counts.ensures) in
+    refused_performed _ no_report no_answer core ram _ (sym (ap verdict_reason c.in-Err.is) ∙ found) (reason_named _) refl (noted_none a.sheet.now)
