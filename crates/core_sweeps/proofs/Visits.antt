@@ -1,16 +1,16 @@
 -- One object's visit, and a sweep over the objects that goes on.
 use Prim.Native.Nat.{ℕ, ◌+◌, ◌*◌, ◌≤◌, ◌<◌}
-use mathlib.Core.Path.{◌≡◌, refl, ap, sym, ◌∙◌}
+use mathlib.Core.Path.{◌≡◌, refl, sym, ◌∙◌}
 use mathlib.Core.Bool.{Bool, true, false, cond}
-use mathlib.Core.List.{List, [], ◌∷◌, ◌++◌, map}
+use mathlib.Core.List.{List, [], ◌∷◌, ◌++◌}
 use mathlib.Core.Logic.{◌⊎◌, inl, inr}
 use native.Mathlib.Omega.{arith}
 use native.Mathlib.Numerals.{add-one}
 use native.Mathlib.Nat.{mul-le-mul_left, mul-suc}
-use lib.ListN.{length, set, get_or, get_or-map}
+use lib.ListN.{length, set}
 use Rattle.rules.specs.Repeat.{rising}
 use Rattle.rules.specs.Notification.{Notification, words, all_words}
-use Rattle.rules.specs.Core.{Owner, Mailbox, empty_mailbox, owner_at, mailbox_at}
+use Rattle.rules.specs.Core.{Owner, Mailbox, empty_mailbox, mailbox_at}
 use Rattle.rules.specs.Polls.{Boxes, Visit, notify, visit_one, visit_all}
 use Rattle.laws.proofs.Tests.{decide}
 use Rattle.laws.proofs.Splices.{splice_nil, splice_then, length_splice}
@@ -18,11 +18,10 @@ use Rattle.laws.proofs.Sheets.{length_all_words, all_words_one, all_words_append
 use Rattle.laws.proofs.Bounds.{mailbox_busy, busy_count, busy_freed, Frees, confirmation_frees, indication_frees, closing_frees, load, visits_load, length-snoc}
 use Rattle.core_layout.specs.Head.{length_bytes}
 use Rattle.core_layout.specs.Sheet.{words_each}
-use Rattle.core_places.specs.Arrays.{mailboxes_in}
 use Rattle.core_sweeps.specs.declared.visit.Visit as declared
 use Rattle.core_sweeps.specs.declared.visit.Visit.TheVariants.{Sent, Received, Occupied}
 use Rattle.core_sweeps.specs.Visits.{visit_of}
-use Rattle.core_sweeps.specs.Swept.{Told, Freed, Visited, Swept, Owned, boxes_from}
+use Rattle.core_sweeps.specs.Swept.{Told, Freed, Visited, Swept, boxes_from}
 
 -- every visit of a poll frees only what is busy
 pub visit_frees : (visit : declared.Visit) (size : ℕ) (two : Bool) (owners : List Owner) (ram : List ℕ) → Frees (visit_of visit size two owners ram)
@@ -96,53 +95,30 @@ swept_length {b} {from} {told} {before} {sheet} s room =
     rw s.sheet_is (length_splice (words_each * from) (all_words b.notifications) before (omega (arith, s.told_is, length_all_words b.notifications)))
 
 -- A loop over the objects: those below h are visited, behind the notifications told before.
-pub record Sweeping (visit : declared.Visit) (size : ℕ) (two : Bool) (owners ram : List ℕ) (count from : ℕ) (p₀ d₀ f₀ : List Bool) (before : List ℕ) (p d f : List Bool) (sheet : List ℕ) (told h : ℕ) : Type 0 where
+pub record Sweeping (v : Visit) (count from : ℕ) (start : List Mailbox) (before : List ℕ) (ms : List Mailbox) (sheet : List ℕ) (told h : ℕ) : Type 0 where
   pub within : h ≤ count
-  pub same_pendings : length p ≡ length p₀
-  pub same_dones : length d ≡ length d₀
-  pub same_fulls : length f ≡ length f₀
   pub same_sheet : length sheet ≡ length before
-  pub swept : (owned : List Owner) → Owned owned owners → Swept (visit_all (visit_of visit size two owned ram) h (boxes_from (mailboxes_in p₀ d₀ f₀))) from before sheet (mailboxes_in p d f) told
+  pub swept : Swept (visit_all v h (boxes_from start)) from before sheet ms told
 
-pub sweep_begins : (visit : declared.Visit) (size : ℕ) (two : Bool) (owners ram : List ℕ) (count from : ℕ) (p d f : List Bool) (before : List ℕ) → Sweeping visit size two owners ram count from p d f before p d f before from 0
+pub sweep_begins : (v : Visit) (count from : ℕ) (ms : List Mailbox) (before : List ℕ) → Sweeping v count from ms before ms before from 0
 unfolding rising visit_all
-sweep_begins visit size two owners ram count from p d f before =
-    record { within = omega arith; same_pendings = refl; same_dones = refl; same_fulls = refl; same_sheet = refl; swept = λ owned e. swept_none from before (mailboxes_in p d f) }
+sweep_begins v count from ms before = record { within = omega arith; same_sheet = refl; swept = swept_none from before ms }
 
--- owners by the number of the controller alone
-abbrev pub owned_by : List ℕ → List Owner
-owned_by controllers = map (λ c. record { controller = c; receiving = false; pool = 0 }) controllers
-
-pub owned_is : (controllers : List ℕ) → Owned (owned_by controllers) controllers
-owned_is controllers h = ap (λ (o : Owner). o.controller) (get_or-map (λ c. record { controller = c; receiving = false; pool = 0 }) controllers h 0)
-
-module _ {visit : declared.Visit} {size : ℕ} {two : Bool} {owners ram : List ℕ} {count from : ℕ} {p₀ d₀ f₀ : List Bool} {before : List ℕ} {p d f : List Bool} {sheet : List ℕ} {told h : ℕ}
-    (s : Sweeping visit size two owners ram count from p₀ d₀ f₀ before p d f sheet told h)
-    (enough : words_each * (from + busy_count count (mailboxes_in p₀ d₀ f₀)) ≤ length before) where
+module _ {v : Visit} (frees : Frees v) {count from : ℕ} {start : List Mailbox} {before : List ℕ} {ms : List Mailbox} {sheet : List ℕ} {told h : ℕ}
+    (s : Sweeping v count from start before ms sheet told h) (enough : words_each * (from + busy_count count start) ≤ length before) where
   -- what was told and what is still busy have room
-  pub sweep_room : words_each * (told + busy_count count (mailboxes_in p d f)) ≤ length before
-  sweep_room =
-      let same = swept_room (visit_of visit size two (owned_by owners) ram) (visit_frees visit size two (owned_by owners) ram) count h s.within (mailboxes_in p₀ d₀ f₀) (s.swept (owned_by owners) (owned_is owners)) in
-      rw same enough
+  pub sweep_room : words_each * (told + busy_count count ms) ≤ length before
+  sweep_room = let same = swept_room v frees count h s.within start s.swept in rw same enough
 
-  pub busy_room : h < count → mailbox_busy (mailbox_at (mailboxes_in p d f) h) ≡ true → words_each * told + words_each ≤ length sheet
-  busy_room l busy = let some = busy_some count (mailboxes_in p d f) h l busy in let room = sweep_room in rw s.same_sheet (omega arith)
+  pub busy_room : h < count → mailbox_busy (mailbox_at ms h) ≡ true → words_each * told + words_each ≤ length sheet
+  busy_room l busy = let some = busy_some count ms h l busy in let room = sweep_room in rw s.same_sheet (omega arith)
 
-  pub sweep_goes_on : h < count → {p₁ d₁ f₁ : List Bool} {sheet₁ : List ℕ} {told₁ : ℕ}
-      → ((owned : List Owner) → (owner_at owned h).controller ≡ get_or owners h 0 → Visited (visit_of visit size two owned ram) h (mailboxes_in p d f) (mailboxes_in p₁ d₁ f₁) told sheet sheet₁ told₁)
-      → length p₁ ≡ length p → length d₁ ≡ length d → length f₁ ≡ length f → length sheet₁ ≡ length sheet
-      → Sweeping visit size two owners ram count from p₀ d₀ f₀ before p₁ d₁ f₁ sheet₁ told₁ (h + 1)
+  pub sweep_goes_on : h < count → {ms₁ : List Mailbox} {sheet₁ : List ℕ} {told₁ : ℕ} → Visited v h ms ms₁ told sheet sheet₁ told₁ → length sheet₁ ≡ length sheet
+      → Sweeping v count from start before ms₁ sheet₁ told₁ (h + 1)
   unfolding visit_all rising
-  sweep_goes_on l {p₁} {d₁} {f₁} {sheet₁} {told₁} visited ep ed ef es =
+  sweep_goes_on l visited es =
       record {
         within = omega arith;
-        same_pendings = ep ∙ s.same_pendings;
-        same_dones = ed ∙ s.same_dones;
-        same_fulls = ef ∙ s.same_fulls;
         same_sheet = es ∙ s.same_sheet;
-        swept = λ owned e. rw add-one (swept_more from before (s.swept owned e) (visit_of visit size two owned ram) h (visited owned (e h)) (λ due. let room = sweep_room in omega arith));
+        swept = rw add-one (swept_more from before s.swept v h visited (λ due. let room = sweep_room in omega arith));
       }
-
-  pub sweep_ends : count ≤ h → (owned : List Owner) → Owned owned owners
-      → Swept (visit_all (visit_of visit size two owned ram) count (boxes_from (mailboxes_in p₀ d₀ f₀))) from before sheet (mailboxes_in p d f) told
-  sweep_ends l owned e = let all : h ≡ count = let w = s.within in omega arith in rw all at (s.swept owned e)

@@ -1,9 +1,9 @@
 -- How a sweep over the objects goes on. 01: "A call writes its records from word 0 on, four words each .. Words after them keep their
 -- values."
-use Rattle.std.specs.Prelude.{ℕ, ◌+◌, ◌*◌, ◌^◌, ◌≤◌, ◌≡◌, cond, List, [], length, set, get_or}
+use Rattle.std.specs.Prelude.{ℕ, ◌+◌, ◌*◌, ◌^◌, ◌≤◌, ◌≡◌, cond, List, [], length, set}
 use Rattle.rules.specs.Bytes.{splice}
 use Rattle.rules.specs.Notification.{Notification, words, all_words}
-use Rattle.rules.specs.Core.{Owner, Mailbox, empty_mailbox, owner_at, mailbox_at}
+use Rattle.rules.specs.Core.{Mailbox, empty_mailbox, mailbox_at}
 use Rattle.rules.specs.Polls.{Boxes, Visit}
 use Rattle.core_layout.specs.Head.{head_size}
 use Rattle.core_layout.specs.Sheet.{words_each}
@@ -33,10 +33,6 @@ pub record Swept (b : Boxes) (from : ℕ) (before after : List ℕ) (ms : List M
   pub mailboxes_are : ms ≡ b.mailboxes
   pub told_is : told ≡ from + length b.notifications
   pub sheet_is : after ≡ splice (words_each * from) (all_words b.notifications) before
-
--- the owners of the objects, by the number of the controller alone
-abbrev pub Owned : List Owner → List ℕ → Type 0
-Owned owners controllers = (h : ℕ) → (owner_at owners h).controller ≡ get_or controllers h 0
 
 -- the memory holds so many objects of this size, and their numbers fit a word of the sheet
 pub record Lent (size count : ℕ) (ram : List ℕ) : Type 0 where
