@@ -18,7 +18,7 @@ use core_answers::gate::full_gate;
 use core_polls::poll::poll_controllers;
 use core_polls::turn::Turn;
 
-// A poll over the controllers: the state with its controllers, their errors, and the mailboxes after the poll.
+// A poll over the controllers: the state with its core after the poll.
 fn polled(turn: Turn, state: State, ram: &[u8], sheet: &mut [u32]) -> Called<()>
     ensures { Performed
         (lifted (view state)
@@ -26,46 +26,9 @@ fn polled(turn: Turn, state: State, ram: &[u8], sheet: &mut [u32]) -> Called<()>
         (view state).core ram.now))
         (verdict_reason result.reply) no_answer (view result.state) result.notifications ram.now sheet.old sheet.new }
 {
-    let gate = full_gate(valid(state), sheet.len(), SHEET_SIZE, ram.len(), RAM_SIZE);
-    let mut modes = state.modes;
-    let mut requests = state.requests;
-    let mut marks = state.marks;
-    let mut recoverings = state.recoverings;
-    let mut tx_errors = state.tx_errors;
-    let mut rx_errors = state.rx_errors;
-    let owners = state.owners;
-    let mut pendings = state.pendings;
-    let mut dones = state.dones;
-    let mut fulls = state.fulls;
-    let reported = poll_controllers(
-        gate,
-        turn,
-        state.controller_count,
-        &mut modes,
-        &mut requests,
-        &mut marks,
-        &mut recoverings,
-        &mut tx_errors,
-        &mut rx_errors,
-        state.object_count,
-        &owners,
-        &mut pendings,
-        &mut dones,
-        &mut fulls,
-        OBJECT_SIZE,
-        ram,
-        sheet,
-    );
     let mut next = state;
-    next.modes = modes;
-    next.requests = requests;
-    next.marks = marks;
-    next.recoverings = recoverings;
-    next.tx_errors = tx_errors;
-    next.rx_errors = rx_errors;
-    next.pendings = pendings;
-    next.dones = dones;
-    next.fulls = fulls;
+    let gate = full_gate(valid(state), sheet.len(), SHEET_SIZE, ram.len(), RAM_SIZE);
+    let reported = poll_controllers(gate, turn, &mut next.core, OBJECT_SIZE, ram, sheet);
     Called {
         state: next,
         reply: reported.reply,
@@ -75,6 +38,7 @@ fn polled(turn: Turn, state: State, ram: &[u8], sheet: &mut [u32]) -> Called<()>
 
 // Mode poll: each controller that is not marked off-bus enters the mode that is requested of it. One that leaves STARTED has its pending
 // objects closed and freed before its mode is told; one that enters STARTED begins without errors.
+#[tactic(auto, unfolding(rules::specs::Calls::main_function_mode, rules::specs::Polls::main_function_mode))]
 pub fn main_function_mode(state: State, ram: &[u8], sheet: &mut [u32]) -> Called<()>
     ensures { Performed
         (rules.main_function_mode chip can_format (view state) (length sheet.old) ram.now)
@@ -85,6 +49,7 @@ pub fn main_function_mode(state: State, ram: &[u8], sheet: &mut [u32]) -> Called
 
 // Bus-off poll: each marked controller has its pending objects closed and freed, is told of, and is STOPPED; its error state stays bus-off
 // until it is STARTED.
+#[tactic(auto, unfolding(rules::specs::Calls::main_function_bus_off, rules::specs::Polls::main_function_bus_off))]
 pub fn main_function_bus_off(state: State, ram: &[u8], sheet: &mut [u32]) -> Called<()>
     ensures { Performed
         (rules.main_function_bus_off chip can_format (view state) (length sheet.old) ram.now)

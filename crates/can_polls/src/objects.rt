@@ -28,28 +28,17 @@ fn polled(visit: Visit, state: State, ram: &[u8], sheet: &mut [u32]) -> Called<(
         (view state).core ram.now))
         (verdict_reason result.reply) no_answer (view result.state) result.notifications ram.now sheet.old sheet.new }
 {
+    let mut next = state;
     let gate = full_gate(valid(state), sheet.len(), SHEET_SIZE, ram.len(), RAM_SIZE);
-    let owners = state.owners;
-    let mut pendings = state.pendings;
-    let mut dones = state.dones;
-    let mut fulls = state.fulls;
     let reported = poll_objects(
         gate,
         visit,
-        state.object_count,
-        &owners,
-        &mut pendings,
-        &mut dones,
-        &mut fulls,
+        &mut next.core,
         OBJECT_SIZE,
         TWO_LENGTH_BYTES,
         ram,
         sheet,
     );
-    let mut next = state;
-    next.pendings = pendings;
-    next.dones = dones;
-    next.fulls = fulls;
     Called {
         state: next,
         reply: reported.reply,
@@ -58,6 +47,7 @@ fn polled(visit: Visit, state: State, ram: &[u8], sheet: &mut [u32]) -> Called<(
 }
 
 // Write poll: each object whose frame was sent is confirmed and freed.
+#[tactic(auto, unfolding(rules::specs::Calls::main_function_write, rules::specs::Polls::main_function_write))]
 pub fn main_function_write(state: State, ram: &[u8], sheet: &mut [u32]) -> Called<()>
     ensures { Performed
         (rules.main_function_write chip can_format (view state) (length sheet.old) ram.now)
@@ -67,6 +57,7 @@ pub fn main_function_write(state: State, ram: &[u8], sheet: &mut [u32]) -> Calle
 }
 
 // Read poll: each object that holds a received frame is indicated and emptied.
+#[tactic(auto, unfolding(rules::specs::Calls::main_function_read, rules::specs::Polls::main_function_read))]
 pub fn main_function_read(state: State, ram: &[u8], sheet: &mut [u32]) -> Called<()>
     ensures { Performed
         (rules.main_function_read chip can_format (view state) (length sheet.old) ram.now)

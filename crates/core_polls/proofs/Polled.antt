@@ -9,7 +9,7 @@ use lib.Dec.{eqb}
 use Rattle.rules.specs.Notification.{Notification, sheet_after}
 use Rattle.rules.specs.Reason.{return_code}
 use Rattle.rules.specs.Errors.{Errors}
-use Rattle.rules.specs.Core.{Controller, Mailbox, Core, with_controllers, with_mailboxes, with_errors}
+use Rattle.rules.specs.Core.{Mailbox, Core, with_mailboxes, with_errors}
 use Rattle.rules.specs.Outcome.{no_answer, judged}
 use Rattle.rules.specs.Polls.{Visit, Turn, polled, visit_all, turn_all, errors_all, objects_polled, controllers_polled}
 use Rattle.laws.proofs.Sheets.{sheet_none}
@@ -30,13 +30,13 @@ module _ (gate : ℕ) (core : Core) (ram : List ℕ) where
   polled_refused next notes {state} {before} e s =
       rw e (record { code_is = refl; reason_is = refl; answer_is = refl; state_is = s; count_is = refl; ram_is = refl; sheet_is = sym (sheet_none before) })
 
-  pub objects_passed : (v : Visit) (ms₀ : List Mailbox) {ms : List Mailbox} {count : ℕ} {before after : List ℕ} → gate ≡ 0 → core.mailboxes ≡ ms₀
-      → Swept (visit_all v core.object_count (boxes_from ms₀)) 0 before after ms count → Performed (objects_polled gate v core ram) gate no_answer (with_mailboxes core ms) count ram before after
-  objects_passed v ms₀ e same s =
-      let at = rw (← same) at s in
-      polled_passed _ _ e (rw at.mailboxes_are) (let n = at.told_is in omega arith) at.sheet_is
+  pub objects_passed : (v : Visit) {next : Core} {ms : List Mailbox} {count : ℕ} {before after : List ℕ} → gate ≡ 0 → next ≡ with_mailboxes core ms
+      → Swept (visit_all v core.object_count (boxes_from core.mailboxes)) 0 before after ms count → Performed (objects_polled gate v core ram) gate no_answer next count ram before after
+  objects_passed v e rest s = polled_passed _ _ e (rw (rest, s.mailboxes_are)) (let n = s.told_is in omega arith) s.sheet_is
 
-  pub controllers_passed : (size : ℕ) (t : Turn) {ks : List Controller} {ms : List Mailbox} {es : List Errors} {count : ℕ} {before after : List ℕ} → gate ≡ 0
-      → SweptAll (turn_all size t core ram) before after ks ms count → es ≡ errors_all t core.controller_count core.controllers core.errors
-      → Performed (controllers_polled gate size t core ram) gate no_answer (with_errors (with_mailboxes (with_controllers core ks) ms) es) count ram before after
-  controllers_passed size t e s errors = polled_passed _ _ e (rw (s.controllers_are, s.boxes_are.mailboxes_are, errors)) (let n = s.boxes_are.told_is in omega arith) s.boxes_are.sheet_is
+  pub controllers_passed : (size : ℕ) (t : Turn) {errors : Core} {next : Core} {es : List Errors} {count : ℕ} {before after : List ℕ} → gate ≡ 0
+      → errors ≡ with_errors core es → es ≡ errors_all t core.controller_count core.controllers core.errors → SweptAll errors (turn_all size t errors ram) 0 before after next count
+      → Performed (controllers_polled gate size t core ram) gate no_answer next count ram before after
+  unfolding turn_all
+  controllers_passed size t {errors} {next} {es} {count} {before} {after} e rest passed s =
+      let swept = rw (rest, passed) at s in polled_passed _ _ e swept.core_is (let n = swept.told_is in omega arith) swept.sheet_is
