@@ -231,12 +231,17 @@ fn misunderstood(desk: Desk) -> Desk {
     next
 }
 
+// A line that is not understood is told, and counted.
+fn not_understood(desk: Desk, trouble: Trouble, line: &[u8], out: &mut [u8]) -> Desk {
+    let mut next = misunderstood(desk);
+    next.at = unreadable(desk, trouble, line, out);
+    next
+}
+
 // An object of the configuration in words, where there was room for it.
 fn object_added(desk: Desk, added: bool, number: u8, line: &[u8], out: &mut [u8]) -> Desk {
     if !added {
-        let mut next = misunderstood(desk);
-        next.at = unreadable(desk, Trouble::TooManyObjects, line, out);
-        return next;
+        return not_understood(desk, Trouble::TooManyObjects, line, out);
     }
     let mut next = desk;
     next.at = object_told(desk, number, out);
@@ -292,13 +297,12 @@ fn configured(
 }
 
 // What a command that looks at the memory, or changes the bench alone, is told as.
-fn asked(desk: Desk, command: Command, line: &[u8], memory: &[u8], out: &mut [u8]) -> usize {
+fn asked(desk: Desk, command: Command, memory: &[u8], out: &mut [u8]) -> usize {
     match command {
         Command::Data { object } => data(desk, object, memory, out),
         Command::Show { object } => show(desk, object, memory, out),
         Command::Sheet { words } => sheet_told(desk, words, out),
         Command::Memory { bytes } => memory_told(desk, bytes, out),
-        Command::Unreadable(trouble) => unreadable(desk, trouble, line, out),
         _ => desk.at,
     }
 }
@@ -313,9 +317,6 @@ fn changed(desk: Desk, command: Command) -> Desk {
         Command::Memory { bytes } => {
             next.memory = bytes as usize;
         }
-        Command::Unreadable(_) => {
-            next = misunderstood(desk);
-        }
         _ => {}
     }
     next
@@ -323,27 +324,13 @@ fn changed(desk: Desk, command: Command) -> Desk {
 
 // Whether a command is of the configuration in words.
 fn is_configured(command: Command) -> bool {
-    match command {
-        Command::Controllers { count: _ } => true,
-        Command::Send {
-            controller: _,
-            payload: _,
-            padding: _,
-        } => true,
-        Command::SendInPool {
-            controller: _,
-            payload: _,
-            padding: _,
-            pool: _,
-        } => true,
-        Command::Receive {
-            controller: _,
-            payload: _,
-            code: _,
-            mask: _,
-        } => true,
-        _ => false,
-    }
+    matches!(
+        command,
+        Command::Controllers { .. }
+            | Command::Send { .. }
+            | Command::SendInPool { .. }
+            | Command::Receive { .. }
+    )
 }
 
 // A command that needs no state.
@@ -359,7 +346,7 @@ fn stateless(
         return configured(desk, command, line, draft, out);
     }
     let mut next = changed(desk, command);
-    next.at = asked(desk, command, line, memory, out);
+    next.at = asked(desk, command, memory, out);
     next
 }
 
@@ -388,14 +375,7 @@ fn config(state: State, desk: Desk, version: u32, room: u32, out: &mut [u8]) -> 
 
 // Whether a command looks at the state.
 fn looks(command: Command) -> bool {
-    match command {
-        Command::State => true,
-        Command::Config {
-            version: _,
-            room: _,
-        } => true,
-        _ => false,
-    }
+    matches!(command, Command::State | Command::Config { .. })
 }
 
 // What such a command is told as.
@@ -406,8 +386,28 @@ fn looked(state: State, desk: Desk, command: Command, out: &mut [u8]) -> usize {
     }
 }
 
-// A command that is no call. Its line is read again, so that what plays a call carries no command.
+// A command that is no call.
 fn other(
+    night: Night,
+    command: Command,
+    line: &[u8],
+    memory: &[u8],
+    draft: &mut [u8; ROOM],
+    out: &mut [u8],
+) -> Night {
+    let state = night.state;
+    let desk = night.desk;
+    if looks(command) {
+        let mut told = desk;
+        told.at = looked(state, desk, command, out);
+        return Night { state, desk: told };
+    }
+    let desk = stateless(desk, command, line, memory, draft, out);
+    Night { state, desk }
+}
+
+// A line that is no call: it is read again, so that what plays a call carries no command.
+fn no_call(
     night: Night,
     line: &[u8],
     memory: &[u8],
@@ -415,28 +415,21 @@ fn other(
     draft: &mut [u8; ROOM],
     out: &mut [u8],
 ) -> Night {
-    let command = bench_script::command::read(line, bytes);
-    let state = night.state;
-    let desk = night.desk;
-    if looks(command) {
-        let mut told = desk;
-        told.at = looked(state, desk, command, out);
-        return Night {
-            state: state,
-            desk: told,
-        };
-    }
-    let next = stateless(desk, command, line, memory, draft, out);
-    Night {
-        state: state,
-        desk: next,
+    match bench_script::command::read(line, bytes) {
+        Ok(command) => other(night, command, line, memory, draft, out),
+        Err(trouble) => Night {
+            state: night.state,
+            desk: not_understood(night.desk, trouble, line, out),
+        },
     }
 }
 
 // What a line asks for. The bytes that it brings are put into the buffer.
 fn asks(line: &[u8], bytes: &mut [u8; MOST_BYTES]) -> Asks {
-    let command = bench_script::command::read(line, bytes);
-    request_of(command)
+    match bench_script::command::read(line, bytes) {
+        Ok(command) => request_of(command),
+        Err(_) => Asks::Other,
+    }
 }
 
 // Plays one line, which has no line end any more.
@@ -454,6 +447,6 @@ pub fn play(
     match asks {
         Asks::Call(wanted) => call_of_line(night, wanted, bytes, memory, sheet, out, book),
         Asks::InitInWords => init_in_words(night, draft, memory, sheet, out, book),
-        Asks::Other => other(night, line, memory, bytes, draft, out),
+        Asks::Other => no_call(night, line, memory, bytes, draft, out),
     }
 }

@@ -1,5 +1,4 @@
 // The style of the output, chosen by an argument.
-use bench_words::split::same;
 use std::env::FillError;
 use std::rt::Env;
 
@@ -18,12 +17,9 @@ pub fn chosen(rt: &impl Env) -> Style {
         Err(FillError::NotPresent) => return Style::Plain,
         Err(FillError::TooLong) => return Style::Unknown,
     };
-    let name = &buffer[..count];
-    if same(name, b"plain") {
-        return Style::Plain;
+    match &buffer[..count] {
+        b"plain" => Style::Plain,
+        b"words" => Style::Words,
+        _ => Style::Unknown,
     }
-    if same(name, b"words") {
-        return Style::Words;
-    }
-    Style::Unknown
 }

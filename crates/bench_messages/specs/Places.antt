@@ -1,5 +1,5 @@
 -- Where the tables of the code have the text of a variant. No promise rests on it.
-use Rattle.std.specs.Prelude.{ℕ}
+use Rattle.std.specs.Prelude.{ℕ, Option, Some, None}
 use Rattle.bench_words.specs.declared.reading.Trouble.{Trouble}
 use Rattle.bench_words.specs.declared.reading.Trouble.TheVariants.{LineTooLong, UnknownCommand, WordMissing, WordTooMany, NotANumber, NumberTooLarge, NotAnIdentifier, IdentifierTooLong, NotHexDigits, OddDigits, NotOneByte, NotAMode, UnknownPoll, HandleTooLarge, SheetTooLong, MemoryTooLong, RoomTooLarge, ByteTooLarge, UnexpectedWord, UnknownKind, TooManyObjects}
 use Rattle.bench_script.specs.declared.name.Name.{Name}
@@ -28,27 +28,27 @@ trouble_place UnexpectedWord = 18
 trouble_place UnknownKind = 19
 trouble_place TooManyObjects = 20
 
-abbrev pub name_place : Name → ℕ
-name_place names.Init = 0
-name_place names.DeInit = 1
-name_place names.Set = 2
-name_place names.Get = 3
-name_place names.ErrorState = 4
-name_place names.RxErrors = 5
-name_place names.TxErrors = 6
-name_place names.Write = 7
-name_place names.Poll = 8
-name_place names.Sent = 9
-name_place names.BusOff = 10
-name_place names.Errors = 11
-name_place names.Arrived = 12
-name_place names.Next = 13
-name_place names.Data = 14
-name_place names.Sheet = 15
-name_place names.Memory = 16
-name_place names.Show = 17
-name_place names.State = 18
-name_place names.Config = 19
-name_place names.Controllers = 20
-name_place names.Object = 21
-name_place names.Unknown = 22
+abbrev pub name_place : Option Name → ℕ
+name_place (Some names.Init) = 0
+name_place (Some names.DeInit) = 1
+name_place (Some names.Set) = 2
+name_place (Some names.Get) = 3
+name_place (Some names.ErrorState) = 4
+name_place (Some names.RxErrors) = 5
+name_place (Some names.TxErrors) = 6
+name_place (Some names.Write) = 7
+name_place (Some names.Poll) = 8
+name_place (Some names.Sent) = 9
+name_place (Some names.BusOff) = 10
+name_place (Some names.Errors) = 11
+name_place (Some names.Arrived) = 12
+name_place (Some names.Next) = 13
+name_place (Some names.Data) = 14
+name_place (Some names.Sheet) = 15
+name_place (Some names.Memory) = 16
+name_place (Some names.Show) = 17
+name_place (Some names.State) = 18
+name_place (Some names.Config) = 19
+name_place (Some names.Controllers) = 20
+name_place (Some names.Object) = 21
+name_place None = 22

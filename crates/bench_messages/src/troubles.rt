@@ -10,32 +10,11 @@ use bench_text::put::put;
 use bench_words::piece::piece;
 use bench_words::reading::Trouble;
 
+// The texts stand in the order of the variants.
 fn place(trouble: Trouble) -> usize
     ensures { result ≡ trouble_place trouble }
 {
-    match trouble {
-        Trouble::LineTooLong => 0,
-        Trouble::UnknownCommand => 1,
-        Trouble::WordMissing => 2,
-        Trouble::WordTooMany => 3,
-        Trouble::NotANumber => 4,
-        Trouble::NumberTooLarge => 5,
-        Trouble::NotAnIdentifier => 6,
-        Trouble::IdentifierTooLong => 7,
-        Trouble::NotHexDigits => 8,
-        Trouble::OddDigits => 9,
-        Trouble::NotOneByte => 10,
-        Trouble::NotAMode => 11,
-        Trouble::UnknownPoll => 12,
-        Trouble::HandleTooLarge => 13,
-        Trouble::SheetTooLong => 14,
-        Trouble::MemoryTooLong => 15,
-        Trouble::RoomTooLarge => 16,
-        Trouble::ByteTooLarge => 17,
-        Trouble::UnexpectedWord => 18,
-        Trouble::UnknownKind => 19,
-        Trouble::TooManyObjects => 20,
-    }
+    trouble as usize
 }
 
 // What is wrong with a line.
@@ -66,38 +45,18 @@ pub fn trouble(out: &mut [u8], at: usize, trouble: Trouble) -> usize
     put(out, at, piece(texts, place(trouble)))
 }
 
-fn place_of(name: Name) -> usize
+// The text where a line names no command stands behind those of the commands.
+fn place_of(name: Option<Name>) -> usize
     ensures { result ≡ name_place name }
 {
     match name {
-        Name::Init => 0,
-        Name::DeInit => 1,
-        Name::Set => 2,
-        Name::Get => 3,
-        Name::ErrorState => 4,
-        Name::RxErrors => 5,
-        Name::TxErrors => 6,
-        Name::Write => 7,
-        Name::Poll => 8,
-        Name::Sent => 9,
-        Name::BusOff => 10,
-        Name::Errors => 11,
-        Name::Arrived => 12,
-        Name::Next => 13,
-        Name::Data => 14,
-        Name::Sheet => 15,
-        Name::Memory => 16,
-        Name::Show => 17,
-        Name::State => 18,
-        Name::Config => 19,
-        Name::Controllers => 20,
-        Name::Object => 21,
-        Name::Unknown => 22,
+        Some(name) => name as usize,
+        None => Name::Object as usize + 1,
     }
 }
 
-// The words of a command.
-fn usage(out: &mut [u8], at: usize, name: Name) -> usize
+// The words of a command; its names where there is none.
+fn usage(out: &mut [u8], at: usize, name: Option<Name>) -> usize
     ensures { Put at (ascii (usage_text name)) out.old out.new result }
 {
     let texts = b"init BYTES, or init alone|\
@@ -127,36 +86,18 @@ fn usage(out: &mut [u8], at: usize, name: Name) -> usize
 }
 
 // The command whose words were expected, where the trouble is with the whole of one.
-fn command_of(trouble: Trouble, name: Name) -> Name
+fn command_of(trouble: Trouble, name: Option<Name>) -> Option<Name>
     ensures { result ≡ command_of trouble name }
 {
     match trouble {
-        Trouble::LineTooLong => name,
-        Trouble::UnknownCommand => name,
-        Trouble::WordMissing => name,
-        Trouble::WordTooMany => name,
-        Trouble::NotANumber => name,
-        Trouble::NumberTooLarge => name,
-        Trouble::NotAnIdentifier => name,
-        Trouble::IdentifierTooLong => name,
-        Trouble::NotHexDigits => name,
-        Trouble::OddDigits => name,
-        Trouble::NotOneByte => name,
-        Trouble::NotAMode => name,
-        Trouble::UnknownPoll => Name::Poll,
-        Trouble::HandleTooLarge => name,
-        Trouble::SheetTooLong => name,
-        Trouble::MemoryTooLong => name,
-        Trouble::RoomTooLarge => name,
-        Trouble::ByteTooLarge => name,
-        Trouble::UnexpectedWord => Name::Object,
-        Trouble::UnknownKind => name,
-        Trouble::TooManyObjects => name,
+        Trouble::UnknownPoll => Some(Name::Poll),
+        Trouble::UnexpectedWord => Some(Name::Object),
+        _ => name,
     }
 }
 
 // What was expected of a line that begins with a command's name: the words of a command where no word is at fault.
-pub fn expected(out: &mut [u8], at: usize, trouble: Trouble, name: Name) -> usize
+pub fn expected(out: &mut [u8], at: usize, trouble: Trouble, name: Option<Name>) -> usize
     ensures { Put at (ascii (expected_text trouble name)) out.old out.new result }
 {
     let texts = b"at most 8192 bytes|\

@@ -168,7 +168,7 @@ pub fn state(out: &mut [u8], at: usize, line: u64, state: State) -> usize {
 }
 
 // What is wrong with which word, and what may have been meant.
-fn wrong(out: &mut [u8], at: usize, trouble: Trouble, name: Name, line: &[u8]) -> usize {
+fn wrong(out: &mut [u8], at: usize, trouble: Trouble, name: Option<Name>, line: &[u8]) -> usize {
     let mut end = troubles::trouble(out, at, trouble);
     end = suspect::shown(out, end, trouble, name, line);
     suspect::guessed(out, end, line)
@@ -180,7 +180,7 @@ pub fn unreadable(
     at: usize,
     number: u64,
     trouble: Trouble,
-    name: Name,
+    name: Option<Name>,
     line: &[u8],
 ) -> usize {
     let mut end = lines::not_understood(out, at, number);

@@ -1,44 +1,20 @@
 // The word that is wrong with a line that was not understood, so that it can be found in the script, and what may have been meant.
 use bench_lines::count::of_bytes;
-use bench_lines::scan::find;
 use bench_messages::lines;
 use bench_script::command::LARGEST_BYTE;
 use bench_script::name::Name;
 use bench_words::digit::all_digits;
 use bench_words::identifier::identifier;
 use bench_words::number::number;
-use bench_words::reading::{Reading, Trouble};
-use bench_words::split::{Span, between, next_word, same, word, word_at};
-
-// No line has so many words.
-const NONE: usize = 8192;
+use bench_words::reading::Trouble;
+use bench_words::split::{Span, between, next_word, word, word_at};
 
 // How much of a word is shown.
 const SHOWN: usize = 24;
 
 // Whether a word says a number that fits a byte.
 fn is_small(word: &[u8]) -> bool {
-    let reading = number(word);
-    match reading {
-        Reading::Value(n) => n <= LARGEST_BYTE,
-        Reading::Unreadable(_) => false,
-    }
-}
-
-fn is_number(word: &[u8]) -> bool {
-    let reading = number(word);
-    match reading {
-        Reading::Value(_) => true,
-        Reading::Unreadable(_) => false,
-    }
-}
-
-fn is_identifier(word: &[u8]) -> bool {
-    let reading = identifier(word);
-    match reading {
-        Reading::Value(_) => true,
-        Reading::Unreadable(_) => false,
-    }
+    number(word).is_ok_and(|n| n <= LARGEST_BYTE)
 }
 
 // The controller, the payload or the pool.
@@ -54,40 +30,46 @@ fn bad_number_of_object(line: &[u8]) -> usize {
 
 // The controller or one of the two counts.
 fn bad_number_of_errors(line: &[u8]) -> usize {
-    if !is_number(word(line, 1)) {
+    if number(word(line, 1)).is_err() {
         return 1;
     }
-    if !is_number(word(line, 2)) {
+    if number(word(line, 2)).is_err() {
         return 2;
     }
     3
 }
 
 // The first number of a line that is none, or too large.
-fn bad_number(name: Name, line: &[u8]) -> usize {
+fn bad_number(name: Option<Name>, line: &[u8]) -> usize {
     match name {
-        Name::Object => bad_number_of_object(line),
-        Name::Errors => bad_number_of_errors(line),
-        Name::Controllers => 1,
-        _ => { if is_number(word(line, 1)) { 2 } else { 1 } }
+        Some(Name::Object) => bad_number_of_object(line),
+        Some(Name::Errors) => bad_number_of_errors(line),
+        Some(Name::Controllers) => 1,
+        _ => { if number(word(line, 1)).is_ok() { 2 } else { 1 } }
     }
 }
 
 // The identifier of a frame, or the first code or mask of an object that is none.
-fn bad_identifier(name: Name, line: &[u8]) -> usize {
+fn bad_identifier(name: Option<Name>, line: &[u8]) -> usize {
     match name {
-        Name::Write => 3,
-        Name::Object => { if is_identifier(word(line, 7)) { 9 } else { 7 } }
+        Some(Name::Write) => 3,
+        Some(Name::Object) => {
+            if identifier(word(line, 7)).is_ok() {
+                9
+            } else {
+                7
+            }
+        }
         _ => 2,
     }
 }
 
 // Where the bytes of a line begin, and how many words of them are looked at.
-fn first_byte(name: Name) -> usize {
+fn first_byte(name: Option<Name>) -> usize {
     match name {
-        Name::Init => 1,
-        Name::Write => 4,
-        Name::Object => 7,
+        Some(Name::Init) => 1,
+        Some(Name::Write) => 4,
+        Some(Name::Object) => 7,
         _ => 3,
     }
 }
@@ -113,86 +95,78 @@ fn bad_byte(line: &[u8], first: Span) -> Span {
 
 // The fixed word that another one stands for.
 fn unexpected(line: &[u8]) -> usize {
-    if !same(word(line, 2), b"controller") {
+    if word(line, 2) != b"controller".as_slice() {
         return 2;
     }
-    if !same(word(line, 4), b"payload") {
+    if word(line, 4) != b"payload".as_slice() {
         return 4;
     }
-    let receives = same(word(line, 1), b"receive");
-    let third = if receives {
-        same(word(line, 6), b"code")
-    } else {
-        same(word(line, 6), b"padding")
+    let third = match word(line, 1) {
+        b"receive" => b"code".as_slice(),
+        _ => b"padding".as_slice(),
     };
-    if third {
-        return 8;
-    }
-    6
+    if word(line, 6) == third { 8 } else { 6 }
 }
 
 // The first word too many.
-fn too_many(name: Name) -> usize {
+fn too_many(name: Option<Name>) -> usize {
     match name {
-        Name::Object => 10,
-        Name::Errors => 4,
-        Name::Set | Name::Config => 3,
-        Name::DeInit | Name::State => 1,
+        Some(Name::Object) => 10,
+        Some(Name::Errors) => 4,
+        Some(Name::Set | Name::Config) => 3,
+        Some(Name::DeInit | Name::State) => 1,
         _ => 2,
     }
 }
 
 // Which word is wrong, or where the bytes begin of which one is; none where the trouble is with the whole line.
-fn place(trouble: Trouble, name: Name, line: &[u8]) -> usize {
+fn place(trouble: Trouble, name: Option<Name>, line: &[u8]) -> Option<usize> {
     match trouble {
-        Trouble::UnknownCommand => 0,
-        Trouble::WordTooMany => too_many(name),
-        Trouble::NotANumber | Trouble::NumberTooLarge | Trouble::ByteTooLarge => bad_number(
+        Trouble::UnknownCommand => Some(0),
+        Trouble::WordTooMany => Some(too_many(name)),
+        Trouble::NotANumber | Trouble::NumberTooLarge | Trouble::ByteTooLarge => Some(bad_number(
             name, line,
-        ),
-        Trouble::NotAnIdentifier | Trouble::IdentifierTooLong => bad_identifier(name, line),
-        Trouble::NotHexDigits | Trouble::OddDigits => first_byte(name),
-        Trouble::NotOneByte => 7,
-        Trouble::UnexpectedWord => unexpected(line),
-        Trouble::NotAMode | Trouble::HandleTooLarge | Trouble::RoomTooLarge => 2,
+        )),
+        Trouble::NotAnIdentifier | Trouble::IdentifierTooLong => Some(bad_identifier(name, line)),
+        Trouble::NotHexDigits | Trouble::OddDigits => Some(first_byte(name)),
+        Trouble::NotOneByte => Some(7),
+        Trouble::UnexpectedWord => Some(unexpected(line)),
+        Trouble::NotAMode | Trouble::HandleTooLarge | Trouble::RoomTooLarge => Some(2),
         Trouble::UnknownPoll
         | Trouble::SheetTooLong
         | Trouble::MemoryTooLong
-        | Trouble::UnknownKind => 1,
-        Trouble::LineTooLong | Trouble::WordMissing | Trouble::TooManyObjects => NONE,
+        | Trouble::UnknownKind => Some(1),
+        Trouble::LineTooLong | Trouble::WordMissing | Trouble::TooManyObjects => None,
     }
-}
-
-// Whether a byte has a sign of its own on paper.
-fn printable(b: u8) -> bool {
-    (0x20 < b) & (b < 0x7F)
-}
-
-fn all_printable(text: &[u8]) -> bool {
-    let mut i = 0;
-    while i < text.len() {
-        if !printable(text[i]) {
-            return false;
-        }
-        i += 1;
-    }
-    true
 }
 
 // Where the word that is wrong stands.
-fn wrong(trouble: Trouble, name: Name, line: &[u8]) -> Span {
-    let span = word_at(line, place(trouble, name, line));
+fn wrong(trouble: Trouble, name: Option<Name>, line: &[u8]) -> Option<Span> {
+    let span = word_at(line, place(trouble, name, line)?);
     match trouble {
-        Trouble::NotHexDigits | Trouble::OddDigits => bad_byte(line, span),
-        _ => span,
+        Trouble::NotHexDigits | Trouble::OddDigits => Some(bad_byte(line, span)),
+        _ => Some(span),
     }
 }
 
+// Whether each byte has a sign of its own on paper.
+fn all_printable(text: &[u8]) -> bool {
+    text.iter().all(|b| b.is_ascii_graphic())
+}
+
 // The beginning of the word that is wrong.
-pub fn shown(out: &mut [u8], at: usize, trouble: Trouble, name: Name, line: &[u8]) -> usize {
-    let span = wrong(trouble, name, line);
+pub fn shown(
+    out: &mut [u8],
+    at: usize,
+    trouble: Trouble,
+    name: Option<Name>,
+    line: &[u8],
+) -> usize {
+    let Some(span) = wrong(trouble, name, line) else {
+        return at;
+    };
     let word = between(line, span.start, span.end);
-    if word.len() == 0 {
+    if word.is_empty() {
         return at;
     }
     let end = of_bytes(SHOWN, word);
@@ -200,20 +174,15 @@ pub fn shown(out: &mut [u8], at: usize, trouble: Trouble, name: Name, line: &[u8
     lines::quoted(out, at, start, all_printable(start))
 }
 
-// Whether a line begins with a byte order mark, which some editors write.
-fn has_mark(line: &[u8]) -> bool {
-    if line.len() < 3 {
-        return false;
-    }
-    (line[0] == 0xEF) & (line[1] == 0xBB) & (line[2] == 0xBF)
-}
+// The byte order mark, which some editors write at the start of a file.
+const MARK: [u8; 3] = [0xEF, 0xBB, 0xBF];
 
 // What may have been meant.
 pub fn guessed(out: &mut [u8], at: usize, line: &[u8]) -> usize {
-    if has_mark(line) {
+    if line.starts_with(&MARK) {
         return lines::order_mark(out, at);
     }
-    if find(line, 0, b'\r') < line.len() {
+    if line.contains(&b'\r') {
         return lines::lone_cr(out, at);
     }
     at

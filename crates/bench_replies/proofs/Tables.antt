@@ -5,9 +5,8 @@ use mathlib.Core.Bool.{Bool, true, false, cond}
 use mathlib.Core.List.{List, [], ◌∷◌}
 use lib.Dec.{eqb, ltb}
 use Rattle.rules.specs.Can.{is_fd, longest_fd}
-use Rattle.bench_words.specs.Split.{leading}
 use Rattle.bench_words.specs.Text.{ascii}
-use Rattle.bench_words.specs.Piece.{piece, piece_start}
+use Rattle.bench_words.specs.Piece.{piece}
 use Rattle.bench_say.proofs.Joined.{joined}
 use Rattle.can_calls.specs.declared.request.Function.{Function}
 use Rattle.can_calls.specs.declared.request.Function.TheVariants as functions
@@ -21,7 +20,7 @@ use Rattle.bench_replies.specs.Refusals as refusals
 use Rattle.bench_replies.specs.Places.{call_place, polled_place, verdict_place, answer_place, other_place, transition_place, data_place, wire_place, refusal_place}
 
 pub call_found : (x : Function) → piece (call_place x) (joined (call_text functions.Init ∷ call_text functions.DeInit ∷ call_text functions.Set ∷ call_text functions.Get ∷ call_text functions.ErrorState ∷ call_text functions.RxErrors ∷ call_text functions.TxErrors ∷ call_text functions.Write ∷ call_text functions.PollWrite ∷ call_text functions.PollRead ∷ call_text functions.PollMode ∷ call_text functions.PollBusOff ∷ call_text functions.Sent ∷ call_text functions.BusOff ∷ call_text functions.ErrorCounts ∷ call_text functions.Arrived ∷ call_text functions.Next ∷ [])) ≡ ascii (call_text x)
-unfolding piece_start leading
+unfolding piece
 call_found functions.Init = refl
 call_found functions.DeInit = refl
 call_found functions.Set = refl
@@ -44,12 +43,12 @@ abbrev answer_texts : List ℕ
 answer_texts = joined ("accepted" ∷ "accepted: %c, %o" ∷ "accepted: waits for the mode poll" ∷ "accepted: nothing to report" ∷ "%m" ∷ "%e" ∷ "%n" ∷ "accepted: waits in object %0" ∷ "stored in object %0" ∷ "unwanted: no object fits" ∷ "lost: every object that fits is full" ∷ "object %0 sends next" ∷ "nobody waits" ∷ [])
 
 polled_found : (silent : Bool) → piece (cond silent 3 0) answer_texts ≡ ascii (cond silent "accepted: nothing to report" "accepted")
-unfolding piece_start leading
+unfolding piece
 polled_found true = refl
 polled_found false = refl
 
 pub answer_found : (a : Answer) (f : Function) (told : ℕ) → piece (answer_place a (verdict_place f (polled_place told))) answer_texts ≡ ascii (answer_text a f told)
-unfolding piece_start leading
+unfolding piece
 answer_found answers.Nothing functions.Init told = refl
 answer_found answers.Nothing functions.DeInit told = refl
 answer_found answers.Nothing functions.Set told = refl
@@ -82,7 +81,7 @@ abbrev refusal_texts : List ℕ
 refusal_texts = joined ("object %0 is no configured sending object" ∷ "controller %0 is not configured" ∷ "the driver is not initialised" ∷ "the driver is initialised already" ∷ "controller %0 cannot go from %m to %m" ∷ "a controller is STARTED" ∷ "%b, and a classic frame holds at most 8" ∷ "%b, and an FD frame holds at most 64" ∷ "%b as an FD frame, and the object's payload is 8" ∷ "no FD frame on the wire has %b" ∷ "no classic frame on the wire has %b" ∷ "the sheet has %w, and a call needs %0" ∷ "the memory has %b, and the chip's has %0" ∷ "id %i is not a valid identifier" ∷ "controller %0 is not STARTED" ∷ "object %0 holds the frame of line %0" ∷ "controller %0 is off the bus" ∷ "object %0 holds no frame that waits to be sent" ∷ "the driver state is not valid" ∷ "the configuration is not valid" ∷ "an error count is too large" ∷ [])
 
 transition_found : (f : Function) (b : Bool) → piece (transition_place f (other_place b)) refusal_texts ≡ ascii (refusals.transition_text f b)
-unfolding piece_start leading
+unfolding piece
 transition_found functions.Init b = refl
 transition_found functions.DeInit true = refl
 transition_found functions.DeInit false = refl
@@ -117,7 +116,7 @@ transition_found functions.Next true = refl
 transition_found functions.Next false = refl
 
 data_found : (identifier length : ℕ) → piece (data_place identifier length) refusal_texts ≡ ascii (refusals.data_text identifier length)
-unfolding piece_start leading
+unfolding piece
 data_found identifier length = go (is_fd identifier) (ltb longest_fd length)
   where
     go : (fd long : Bool) → piece (cond fd (cond long 7 8) 6) refusal_texts ≡ ascii (cond fd (cond long "%b, and an FD frame holds at most 64" "%b as an FD frame, and the object's payload is 8") "%b, and a classic frame holds at most 8")
@@ -126,7 +125,7 @@ data_found identifier length = go (is_fd identifier) (ltb longest_fd length)
     go false long = refl
 
 wire_found : (identifier : ℕ) → piece (wire_place identifier) refusal_texts ≡ ascii (refusals.wire_text identifier)
-unfolding piece_start leading
+unfolding piece
 wire_found identifier = go (is_fd identifier)
   where
     go : (fd : Bool) → piece (cond fd 9 10) refusal_texts ≡ ascii (cond fd "no FD frame on the wire has %b" "no classic frame on the wire has %b")
@@ -135,7 +134,7 @@ wire_found identifier = go (is_fd identifier)
 
 pub refusal_found : (x : Rejection) (f : Function) (identifier length : ℕ) (b : Bool) →
     piece (refusal_place x (transition_place f (other_place b)) (data_place identifier length) (wire_place identifier)) refusal_texts ≡ ascii (refusals.refusal_text x f identifier length b)
-unfolding piece_start leading
+unfolding piece
 refusal_found rejections.ParamHandle f identifier length b = refl
 refusal_found rejections.ParamDataLength f identifier length b = data_found identifier length
 refusal_found rejections.ParamController f identifier length b = refl

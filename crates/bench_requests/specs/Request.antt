@@ -1,7 +1,7 @@
 -- The call that each command asks for, as docs/BENCH.md has them: the function, and which word of the line it takes as what.
 use Rattle.std.specs.Prelude.{ℕ}
 use Rattle.bench_script.specs.declared.command.Command.{Command}
-use Rattle.bench_script.specs.declared.command.Command.TheVariants.{Blank, Init, InitInWords, DeInit, Set, Get, ErrorState, RxErrors, TxErrors, Write, PollWrite, PollRead, PollMode, PollBusOff, Sent, BusOff, Errors, Arrived, Next, Data, Sheet, Memory, Show, State, Config, Controllers, Send, SendInPool, Receive, Unreadable}
+use Rattle.bench_script.specs.declared.command.Command.TheVariants.{Blank, Init, InitInWords, DeInit, Set, Get, ErrorState, RxErrors, TxErrors, Write, PollWrite, PollRead, PollMode, PollBusOff, Sent, BusOff, Errors, Arrived, Next, Data, Sheet, Memory, Show, State, Config, Controllers, Send, SendInPool, Receive}
 use Rattle.can_calls.specs.declared.request.Function.TheVariants as functions
 use Rattle.can_calls.specs.declared.request.Request.{Request}
 use Rattle.bench_requests.specs.declared.request.Asks.{Asks}
@@ -48,4 +48,3 @@ request_of (Controllers n) = Other
 request_of (Send c p x) = Other
 request_of (SendInPool c p x n) = Other
 request_of (Receive c p code mask) = Other
-request_of (Unreadable trouble) = Other

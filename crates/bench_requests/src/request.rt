@@ -32,17 +32,14 @@ fn call(
     ensures { result ≡ requests.call (record { function = function; controller = controller; object = object; number = number; receive = 0; identifier = identifier }) length }
 {
     let request = Request {
-        function: function,
-        controller: controller,
-        object: object,
-        number: number,
+        function,
+        controller,
+        object,
+        number,
         receive: 0,
-        identifier: identifier,
+        identifier,
     };
-    Asks::Call(Wanted {
-        request: request,
-        length: length,
-    })
+    Asks::Call(Wanted { request, length })
 }
 
 // The two error counts of a controller.
@@ -51,16 +48,13 @@ fn counts(controller: u32, transmit: u32, receive: u32) -> Asks
 {
     let request = Request {
         function: Function::ErrorCounts,
-        controller: controller,
+        controller,
         object: 0,
         number: transmit,
-        receive: receive,
+        receive,
         identifier: 0,
     };
-    Asks::Call(Wanted {
-        request: request,
-        length: 0,
-    })
+    Asks::Call(Wanted { request, length: 0 })
 }
 
 // Init with so many bytes.
@@ -75,10 +69,7 @@ pub fn init(length: u32) -> Wanted
         receive: 0,
         identifier: 0,
     };
-    Wanted {
-        request: request,
-        length: length,
-    }
+    Wanted { request, length }
 }
 
 // What a function does not take is 0.
@@ -117,34 +108,16 @@ pub fn request_of(command: Command) -> Asks
         } => call(Function::Arrived, controller, 0, 0, identifier, length),
         Command::Next { controller } => call(Function::Next, controller, 0, 0, 0, 0),
         Command::InitInWords => Asks::InitInWords,
-        Command::Blank => Asks::Other,
-        Command::Data { object: _ } => Asks::Other,
-        Command::Sheet { words: _ } => Asks::Other,
-        Command::Memory { bytes: _ } => Asks::Other,
-        Command::Show { object: _ } => Asks::Other,
-        Command::State => Asks::Other,
-        Command::Config {
-            version: _,
-            room: _,
-        } => Asks::Other,
-        Command::Controllers { count: _ } => Asks::Other,
-        Command::Send {
-            controller: _,
-            payload: _,
-            padding: _,
-        } => Asks::Other,
-        Command::SendInPool {
-            controller: _,
-            payload: _,
-            padding: _,
-            pool: _,
-        } => Asks::Other,
-        Command::Receive {
-            controller: _,
-            payload: _,
-            code: _,
-            mask: _,
-        } => Asks::Other,
-        Command::Unreadable(_) => Asks::Other,
+        Command::Blank
+        | Command::Data { .. }
+        | Command::Sheet { .. }
+        | Command::Memory { .. }
+        | Command::Show { .. }
+        | Command::State
+        | Command::Config { .. }
+        | Command::Controllers { .. }
+        | Command::Send { .. }
+        | Command::SendInPool { .. }
+        | Command::Receive { .. } => Asks::Other,
     }
 }

@@ -1,2 +1,2 @@
--- Laws that several proofs of this crate cite.
-pub mod Made
+-- A law of what a line says.
+pub mod Blank

@@ -1,91 +1,80 @@
 -- An object of a configuration in words: what stands behind `object`.
-use Rattle.std.specs.Prelude.{ℕ, ◌-◌, not, cond, List}
-use Rattle.rules.specs.Bytes.{same_bytes}
-use Rattle.bench_words.specs.Text.{ascii}
+use Rattle.std.specs.Prelude.{ℕ, cond, List, bytes_eq, codes, Result, Ok, Err}
 use Rattle.bench_words.specs.Split.{is_missing, first, after}
-use Rattle.bench_words.specs.Reading.{number_of, limited_to, identifier_of, one_byte_of, largest_byte}
-use Rattle.bench_script.specs.With.{with_value}
-use Rattle.bench_words.specs.declared.reading.Trouble.TheVariants.{WordMissing, WordTooMany, ByteTooLarge, UnexpectedWord, UnknownKind}
-use Rattle.bench_words.specs.declared.reading.Reading.{Reading}
-use Rattle.bench_words.specs.declared.reading.Reading.TheVariants as readings
-use Rattle.bench_script.specs.declared.object.Kind.{Kind}
-use Rattle.bench_script.specs.declared.object.Kind.TheVariants.{Sending, Pooled, Receiving}
-use Rattle.bench_script.specs.declared.object.Value.{Value}
-use Rattle.bench_script.specs.declared.object.Value.TheVariants.{Number, Byte, Identifier}
+use Rattle.bench_words.specs.Reading.{with_value, number_of, limited_to, identifier_of, one_byte_of, largest_byte}
+use Rattle.bench_words.specs.declared.reading.Trouble.{Trouble}
+use Rattle.bench_words.specs.declared.reading.Trouble.TheVariants.{ByteTooLarge, UnexpectedWord, UnknownKind}
+use Rattle.bench_script.specs.Count.{ending_at}
 use Rattle.bench_script.specs.declared.command.Command.{Command}
-use Rattle.bench_script.specs.declared.command.Command.TheVariants.{Send, SendInPool, Receive, Unreadable}
+use Rattle.bench_script.specs.declared.command.Command.TheVariants.{Send, SendInPool, Receive}
 
--- a number that fits a byte, a byte of two digits, or an identifier
-abbrev pub value_of : Value → List ℕ → Reading
-value_of Number w = limited_to largest_byte ByteTooLarge (number_of w)
-value_of Byte w = one_byte_of w
-value_of Identifier w = identifier_of w
+-- a number that fits a byte
+abbrev pub small_of : List ℕ → Result ℕ Trouble
+small_of w = limited_to largest_byte ByteTooLarge (number_of w)
+
+-- the word behind a fixed word
+abbrev pub field_of : List ℕ → List ℕ → Result (List ℕ) Trouble
+field_of keyword text = cond (bytes_eq (first text) keyword) (Ok (first (after text))) (Err UnexpectedWord)
 
 -- a fixed word, and the value behind it
-abbrev pub field_of : List ℕ → Value → List ℕ → Reading
-field_of keyword value text =
-    cond (same_bytes (first text) keyword) (value_of value (first (after text))) (readings.Unreadable UnexpectedWord)
+abbrev pub value_of : List ℕ → (List ℕ → Result ℕ Trouble) → List ℕ → Result ℕ Trouble
+value_of keyword read text = with_value (field_of keyword text) read
 
 abbrev pub behind_field : List ℕ → List ℕ
 behind_field text = after (after text)
 
 -- the fixed words
 abbrev pub controller_word : List ℕ
-controller_word = ascii "controller"
+controller_word = codes "controller"
 
 abbrev pub payload_word : List ℕ
-payload_word = ascii "payload"
+payload_word = codes "payload"
 
 abbrev pub padding_word : List ℕ
-padding_word = ascii "padding"
+padding_word = codes "padding"
 
 abbrev pub pool_word : List ℕ
-pool_word = ascii "pool"
+pool_word = codes "pool"
 
 abbrev pub code_word : List ℕ
-code_word = ascii "code"
+code_word = codes "code"
 
 abbrev pub mask_word : List ℕ
-mask_word = ascii "mask"
+mask_word = codes "mask"
 
--- padding XX
-abbrev pub send_of : ℕ → ℕ → List ℕ → Command
-send_of c p text = with_value (field_of padding_word Byte text) (λ x. Send c p x)
+-- controller C payload P, with which each object begins
+abbrev pub common_of : List ℕ → Result (ℕ × ℕ) Trouble
+common_of text =
+    with_value (value_of controller_word small_of text) (λ c. with_value (value_of payload_word small_of (behind_field text)) (λ p. Ok (c, p)))
 
--- padding XX pool N
-abbrev pub pooled_of : ℕ → ℕ → List ℕ → Command
-pooled_of c p text =
-    with_value (field_of padding_word Byte text) (λ x. with_value (field_of pool_word Number (behind_field text)) (λ n. SendInPool c p x n))
+-- what stands behind it
+abbrev pub behind_common : List ℕ → List ℕ
+behind_common text = behind_field (behind_field text)
 
--- code ID mask ID
-abbrev pub receive_of : ℕ → ℕ → List ℕ → Command
-receive_of c p text =
-    with_value (field_of code_word Identifier text) (λ i. with_value (field_of mask_word Identifier (behind_field text)) (λ m. Receive c p i m))
+-- send controller C payload P padding XX
+abbrev pub send_of : List ℕ → Result Command Trouble
+send_of text =
+    with_value (ending_at 5 text)
+    (λ _. with_value (common_of text) (λ o. with_value (value_of padding_word one_byte_of (behind_common text)) (λ x. Ok (Send o.0 o.1 x))))
 
-abbrev pub of_kind : Kind → ℕ → ℕ → List ℕ → Command
-of_kind Sending c p text = send_of c p text
-of_kind Pooled c p text = pooled_of c p text
-of_kind Receiving c p text = receive_of c p text
+-- send controller C payload P padding XX pool N
+abbrev pub pooled_of : List ℕ → Result Command Trouble
+pooled_of text =
+    with_value (ending_at 7 text)
+    (λ _. with_value (common_of text)
+    (λ o. with_value (value_of padding_word one_byte_of (behind_common text))
+    (λ x. with_value (value_of pool_word small_of (behind_field (behind_common text))) (λ n. Ok (SendInPool o.0 o.1 x n)))))
 
--- payload P, and what an object of its kind takes
-abbrev pub on_controller : Kind → ℕ → List ℕ → Command
-on_controller kind c text = with_value (field_of payload_word Number text) (λ p. of_kind kind c p (behind_field text))
+-- receive controller C payload P code ID mask ID
+abbrev pub receive_of : List ℕ → Result Command Trouble
+receive_of text =
+    with_value (ending_at 7 text)
+    (λ _. with_value (common_of text)
+    (λ o. with_value (value_of code_word identifier_of (behind_common text))
+    (λ i. with_value (value_of mask_word identifier_of (behind_field (behind_common text))) (λ m. Ok (Receive o.0 o.1 i m)))))
 
--- controller C, and the rest
-abbrev pub fields_of : Kind → List ℕ → Command
-fields_of kind text = with_value (field_of controller_word Number text) (λ c. on_controller kind c (behind_field text))
-
--- just so many words
-abbrev pub sized : ℕ → List ℕ → Command → Command
-sized count text command =
-    cond (is_missing (count - 1) text) (Unreadable WordMissing) (cond (not (is_missing count text)) (Unreadable WordTooMany) command)
-
--- send ..: a word behind the padding says that a pool follows
-abbrev pub sending_of : List ℕ → Command
-sending_of text = cond (is_missing 6 text) (sized 6 text (fields_of Sending text)) (sized 8 text (fields_of Pooled text))
-
--- send .. or receive ..
-unfoldable pub object_of : List ℕ → Command
+-- send .. or receive ..: a word behind the padding of one that sends says that a pool follows
+unfoldable pub object_of : List ℕ → Result Command Trouble
 object_of text =
-    cond (same_bytes (first text) (ascii "send")) (sending_of (after text))
-    (cond (same_bytes (first text) (ascii "receive")) (sized 8 (after text) (fields_of Receiving (after text))) (Unreadable UnknownKind))
+    cond (bytes_eq (first text) (codes "send")) (cond (is_missing 6 (after text)) (send_of (after text)) (pooled_of (after text)))
+    (cond (bytes_eq (first text) (codes "receive")) (receive_of (after text)) (Err UnknownKind))

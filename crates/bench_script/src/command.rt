@@ -1,15 +1,15 @@
 // A line as a command.
 ghost use Rattle.bench_script.specs.Command as commands;
-ghost use Rattle.bench_script.specs.With.{with_value};
 ghost use Rattle.std.specs.Prelude.{◌≡◌};
 
+use crate::count::counted;
 use crate::name::{Name, arguments_of, name_of};
 use crate::object::object;
 use bench_words::bytes::{LONGEST_LINE, MOST_BYTES, bytes};
 use bench_words::identifier::identifier;
 use bench_words::number::{limited, mode, number};
-use bench_words::reading::{Reading, Trouble};
-use bench_words::split::{after, first, same, word};
+use bench_words::reading::Trouble;
+use bench_words::split::{after, first};
 
 // What a line asks for. A length counts the bytes that the line brings: they stand in the buffer lent to `read`.
 #[derive(Clone, Copy)]
@@ -109,24 +109,6 @@ pub enum Command {
         code: u32,
         mask: u32,
     },
-    Unreadable(Trouble),
-}
-
-// The commands that take one number and nothing else.
-#[derive(Clone, Copy)]
-pub enum Numbered {
-    Get,
-    ErrorState,
-    RxErrors,
-    TxErrors,
-    Sent,
-    BusOff,
-    Next,
-    Data,
-    Show,
-    Sheet,
-    Memory,
-    Controllers,
 }
 
 // The largest handle, sheet, memory and room that a line may name.
@@ -142,333 +124,179 @@ pub const LARGEST_ROOM: usize = 4096;
 pub const LARGEST_BYTE: u32 = 255;
 
 // init BYTES, or init alone
-fn init(text: &[u8], out: &mut [u8; MOST_BYTES]) -> Command
+#[tactic(auto, unfolding(rules::specs::Bytes::splice))]
+fn init(text: &[u8], out: &mut [u8; MOST_BYTES]) -> Result<Command, Trouble>
     ensures { commands.CommandRead (commands.init_of text.now) out.old out.new result }
 {
-    if first(text).len() == 0 {
-        return Command::InitInWords;
+    if first(text).is_empty() {
+        return Ok(Command::InitInWords);
     }
-    let reading = bytes(text, out);
-    match reading {
-        Reading::Unreadable(t) => Command::Unreadable(t),
-        Reading::Value(n) => Command::Init { length: n },
-    }
+    let length = bytes(text, out)?;
+    Ok(Command::Init { length })
 }
 
 // set C MODE
-fn set(text: &[u8]) -> Command
+fn set(text: &[u8]) -> Result<Command, Trouble>
     ensures { result ≡ commands.set_of text.now }
 {
-    let controller = number(first(text));
-    match controller {
-        Reading::Unreadable(t) => Command::Unreadable(t),
-        Reading::Value(c) => set_to(after(text), c),
-    }
-}
-
-fn set_to(text: &[u8], controller: u32) -> Command
-    ensures { result ≡ commands.set_mode_of controller text.now }
-{
-    let mode = mode(first(text));
-    match mode {
-        Reading::Unreadable(t) => Command::Unreadable(t),
-        Reading::Value(m) => Command::Set {
-            controller: controller,
-            mode: m,
-        },
-    }
-}
-
-// The command that a number makes, or the trouble with its word.
-fn of_number(what: Numbered, reading: Reading) -> Command
-    ensures { result ≡ with_value reading (commands.of_number what) }
-{
-    match reading {
-        Reading::Unreadable(t) => Command::Unreadable(t),
-        Reading::Value(n) => match what {
-            Numbered::Get => Command::Get { controller: n },
-            Numbered::ErrorState => Command::ErrorState { controller: n },
-            Numbered::RxErrors => Command::RxErrors { controller: n },
-            Numbered::TxErrors => Command::TxErrors { controller: n },
-            Numbered::Sent => Command::Sent { object: n },
-            Numbered::BusOff => Command::BusOff { controller: n },
-            Numbered::Next => Command::Next { controller: n },
-            Numbered::Data => Command::Data { object: n },
-            Numbered::Show => Command::Show { object: n },
-            Numbered::Sheet => Command::Sheet { words: n },
-            Numbered::Memory => Command::Memory { bytes: n },
-            Numbered::Controllers => Command::Controllers { count: n },
-        },
-    }
-}
-
-// get C, errorstate C, rxerrors C, txerrors C, sent OBJ, busoff C, next C, data OBJ, show OBJ
-fn with_number(text: &[u8], what: Numbered) -> Command
-    ensures { result ≡ commands.with_number what text.now }
-{
-    of_number(what, number(first(text)))
-}
-
-// sheet N, memory N, controllers N: each has a limit, and trouble of its own with a number above it.
-fn with_limited(text: &[u8], what: Numbered, limit: u32, trouble: Trouble) -> Command
-    ensures { result ≡ commands.with_limited what limit trouble text.now }
-{
-    of_number(what, limited(first(text), limit, trouble))
+    let controller = number(first(text))?;
+    let mode = mode(first(after(text)))?;
+    Ok(Command::Set { controller, mode })
 }
 
 // errors C TX RX
-fn errors(text: &[u8]) -> Command
+fn errors(text: &[u8]) -> Result<Command, Trouble>
     ensures { result ≡ commands.errors_of text.now }
 {
-    let controller = number(first(text));
-    match controller {
-        Reading::Unreadable(t) => Command::Unreadable(t),
-        Reading::Value(c) => errors_on(after(text), c),
-    }
-}
-
-fn errors_on(text: &[u8], controller: u32) -> Command
-    ensures { result ≡ commands.errors_on_of controller text.now }
-{
-    let transmit = number(first(text));
-    let receive = number(first(after(text)));
-    match transmit {
-        Reading::Unreadable(t) => Command::Unreadable(t),
-        Reading::Value(n) => match receive {
-            Reading::Unreadable(t) => Command::Unreadable(t),
-            Reading::Value(m) => Command::Errors {
-                controller: controller,
-                transmit: n,
-                receive: m,
-            },
-        },
-    }
+    let controller = number(first(text))?;
+    let text = after(text);
+    let transmit = number(first(text))?;
+    let receive = number(first(after(text)))?;
+    Ok(Command::Errors {
+        controller,
+        transmit,
+        receive,
+    })
 }
 
 // config V ROOM
-fn config(text: &[u8]) -> Command
+fn config(text: &[u8]) -> Result<Command, Trouble>
     ensures { result ≡ commands.config_of text.now }
 {
-    let version = number(first(text));
-    match version {
-        Reading::Unreadable(t) => Command::Unreadable(t),
-        Reading::Value(v) => config_in(after(text), v),
-    }
-}
-
-fn config_in(text: &[u8], version: u32) -> Command
-    ensures { result ≡ commands.config_room_of version text.now }
-{
-    let room = limited(first(text), LARGEST_ROOM as u32, Trouble::RoomTooLarge);
-    match room {
-        Reading::Unreadable(t) => Command::Unreadable(t),
-        Reading::Value(n) => Command::Config {
-            version: version,
-            room: n,
-        },
-    }
+    let version = number(first(text))?;
+    let room = limited(
+        first(after(text)),
+        LARGEST_ROOM as u32,
+        Trouble::RoomTooLarge,
+    )?;
+    Ok(Command::Config { version, room })
 }
 
 // poll write | read | mode | busoff
-fn poll(word: &[u8]) -> Command
+#[tactic(auto, unfolding(crate::specs::Command::poll_of))]
+fn poll(word: &[u8]) -> Result<Command, Trouble>
     ensures { result ≡ commands.poll_of word.now }
 {
-    if same(word, b"write") {
-        return Command::PollWrite;
+    match word {
+        b"write" => Ok(Command::PollWrite),
+        b"read" => Ok(Command::PollRead),
+        b"mode" => Ok(Command::PollMode),
+        b"busoff" => Ok(Command::PollBusOff),
+        _ => Err(Trouble::UnknownPoll),
     }
-    if same(word, b"read") {
-        return Command::PollRead;
-    }
-    if same(word, b"mode") {
-        return Command::PollMode;
-    }
-    if same(word, b"busoff") {
-        return Command::PollBusOff;
-    }
-    Command::Unreadable(Trouble::UnknownPoll)
 }
 
 // write OBJ HANDLE ID BYTES
-fn write(text: &[u8], out: &mut [u8; MOST_BYTES]) -> Command
+#[tactic(auto, unfolding(rules::specs::Bytes::splice))]
+fn write(text: &[u8], out: &mut [u8; MOST_BYTES]) -> Result<Command, Trouble>
     ensures { commands.CommandRead (commands.write_of text.now) out.old out.new result }
 {
-    let object = number(first(text));
-    match object {
-        Reading::Unreadable(t) => Command::Unreadable(t),
-        Reading::Value(h) => write_to(after(text), out, h),
-    }
-}
-
-fn write_to(text: &[u8], out: &mut [u8; MOST_BYTES], object: u32) -> Command
-    ensures { commands.CommandRead (commands.write_to_of object text.now) out.old out.new result }
-{
-    let handle = limited(first(text), LARGEST_HANDLE, Trouble::HandleTooLarge);
-    match handle {
-        Reading::Unreadable(t) => Command::Unreadable(t),
-        Reading::Value(p) => write_with(after(text), out, object, p),
-    }
-}
-
-fn write_with(text: &[u8], out: &mut [u8; MOST_BYTES], object: u32, handle: u32) -> Command
-    ensures { commands.CommandRead (commands.write_with_of object handle text.now) out.old out.new result }
-{
-    let identifier = identifier(first(text));
-    match identifier {
-        Reading::Unreadable(t) => Command::Unreadable(t),
-        Reading::Value(i) => write_frame(after(text), out, object, handle, i),
-    }
-}
-
-fn write_frame(
-    text: &[u8],
-    out: &mut [u8; MOST_BYTES],
-    object: u32,
-    handle: u32,
-    identifier: u32,
-) -> Command
-    ensures { commands.CommandRead (commands.write_frame_of object handle identifier text.now) out.old out.new result }
-{
-    let reading = bytes(text, out);
-    match reading {
-        Reading::Unreadable(t) => Command::Unreadable(t),
-        Reading::Value(n) => Command::Write {
-            object: object,
-            handle: handle,
-            identifier: identifier,
-            length: n,
-        },
-    }
+    let object = number(first(text))?;
+    let text = after(text);
+    let handle = limited(first(text), LARGEST_HANDLE, Trouble::HandleTooLarge)?;
+    let text = after(text);
+    let identifier = identifier(first(text))?;
+    let length = bytes(after(text), out)?;
+    Ok(Command::Write {
+        object,
+        handle,
+        identifier,
+        length,
+    })
 }
 
 // arrived C ID BYTES
-fn arrived(text: &[u8], out: &mut [u8; MOST_BYTES]) -> Command
+#[tactic(auto, unfolding(rules::specs::Bytes::splice))]
+fn arrived(text: &[u8], out: &mut [u8; MOST_BYTES]) -> Result<Command, Trouble>
     ensures { commands.CommandRead (commands.arrived_of text.now) out.old out.new result }
 {
-    let controller = number(first(text));
-    match controller {
-        Reading::Unreadable(t) => Command::Unreadable(t),
-        Reading::Value(c) => arrived_on(after(text), out, c),
-    }
-}
-
-fn arrived_on(text: &[u8], out: &mut [u8; MOST_BYTES], controller: u32) -> Command
-    ensures { commands.CommandRead (commands.arrived_on_of controller text.now) out.old out.new result }
-{
-    let identifier = identifier(first(text));
-    match identifier {
-        Reading::Unreadable(t) => Command::Unreadable(t),
-        Reading::Value(i) => arrived_frame(after(text), out, controller, i),
-    }
-}
-
-fn arrived_frame(
-    text: &[u8],
-    out: &mut [u8; MOST_BYTES],
-    controller: u32,
-    identifier: u32,
-) -> Command
-    ensures { commands.CommandRead (commands.arrived_frame_of controller identifier text.now) out.old out.new result }
-{
-    let reading = bytes(text, out);
-    match reading {
-        Reading::Unreadable(t) => Command::Unreadable(t),
-        Reading::Value(n) => Command::Arrived {
-            controller: controller,
-            identifier: identifier,
-            length: n,
-        },
-    }
+    let controller = number(first(text))?;
+    let text = after(text);
+    let identifier = identifier(first(text))?;
+    let length = bytes(after(text), out)?;
+    Ok(Command::Arrived {
+        controller,
+        identifier,
+        length,
+    })
 }
 
 // The words after a name.
-fn named(name: Name, text: &[u8], out: &mut [u8; MOST_BYTES]) -> Command
+#[tactic(auto, unfolding(crate::specs::Command::named, rules::specs::Bytes::splice))]
+fn named(name: Name, text: &[u8], out: &mut [u8; MOST_BYTES]) -> Result<Command, Trouble>
     ensures { commands.CommandRead (commands.named name text.now) out.old out.new result }
 {
+    let word = first(text);
     match name {
         Name::Init => init(text, out),
-        Name::DeInit => Command::DeInit,
+        Name::DeInit => Ok(Command::DeInit),
         Name::Set => set(text),
-        Name::Get => with_number(text, Numbered::Get),
-        Name::ErrorState => with_number(text, Numbered::ErrorState),
-        Name::RxErrors => with_number(text, Numbered::RxErrors),
-        Name::TxErrors => with_number(text, Numbered::TxErrors),
+        Name::Get => Ok(Command::Get {
+            controller: number(word)?,
+        }),
+        Name::ErrorState => Ok(Command::ErrorState {
+            controller: number(word)?,
+        }),
+        Name::RxErrors => Ok(Command::RxErrors {
+            controller: number(word)?,
+        }),
+        Name::TxErrors => Ok(Command::TxErrors {
+            controller: number(word)?,
+        }),
         Name::Write => write(text, out),
-        Name::Poll => poll(first(text)),
-        Name::Sent => with_number(text, Numbered::Sent),
-        Name::BusOff => with_number(text, Numbered::BusOff),
+        Name::Poll => poll(word),
+        Name::Sent => Ok(Command::Sent {
+            object: number(word)?,
+        }),
+        Name::BusOff => Ok(Command::BusOff {
+            controller: number(word)?,
+        }),
         Name::Errors => errors(text),
         Name::Arrived => arrived(text, out),
-        Name::Next => with_number(text, Numbered::Next),
-        Name::Data => with_number(text, Numbered::Data),
-        Name::Sheet => with_limited(
-            text,
-            Numbered::Sheet,
-            LARGEST_SHEET as u32,
-            Trouble::SheetTooLong,
-        ),
-        Name::Memory => with_limited(
-            text,
-            Numbered::Memory,
-            LARGEST_MEMORY as u32,
-            Trouble::MemoryTooLong,
-        ),
-        Name::Show => with_number(text, Numbered::Show),
-        Name::State => Command::State,
+        Name::Next => Ok(Command::Next {
+            controller: number(word)?,
+        }),
+        Name::Data => Ok(Command::Data {
+            object: number(word)?,
+        }),
+        Name::Sheet => Ok(Command::Sheet {
+            words: limited(word, LARGEST_SHEET as u32, Trouble::SheetTooLong)?,
+        }),
+        Name::Memory => Ok(Command::Memory {
+            bytes: limited(word, LARGEST_MEMORY as u32, Trouble::MemoryTooLong)?,
+        }),
+        Name::Show => Ok(Command::Show {
+            object: number(word)?,
+        }),
+        Name::State => Ok(Command::State),
         Name::Config => config(text),
-        Name::Controllers => with_limited(
-            text,
-            Numbered::Controllers,
-            LARGEST_BYTE,
-            Trouble::ByteTooLarge,
-        ),
+        Name::Controllers => Ok(Command::Controllers {
+            count: limited(word, LARGEST_BYTE, Trouble::ByteTooLarge)?,
+        }),
         Name::Object => object(text),
-        Name::Unknown => Command::Unreadable(Trouble::UnknownCommand),
     }
-}
-
-// Whether there is a word n, where no more words may follow.
-fn too_many(more: bool, line: &[u8], n: usize) -> bool
-    ensures { result ≡ commands.too_many more line.now n }
-{
-    if more {
-        return false;
-    }
-    word(line, n).len() != 0
-}
-
-// A name with as many words as it takes.
-fn counted(name: Name, line: &[u8], out: &mut [u8; MOST_BYTES]) -> Command
-    ensures { commands.CommandRead (commands.counted name line.now) out.old out.new result }
-{
-    let arguments = arguments_of(name);
-    let count = arguments.n as usize;
-    if word(line, count).len() == 0 {
-        return Command::Unreadable(Trouble::WordMissing);
-    }
-    if too_many(arguments.more, line, count + 1) {
-        return Command::Unreadable(Trouble::WordTooMany);
-    }
-    named(name, after(line), out)
 }
 
 // Whether a line says nothing: it is blank, or a comment alone.
 pub fn says_nothing(line: &[u8]) -> bool
     ensures { result ≡ commands.says_nothing line.now }
 {
-    let name = first(line);
-    (line.len() <= LONGEST_LINE) & (name.len() == 0)
+    (line.len() <= LONGEST_LINE) & first(line).is_empty()
 }
 
 // Reads a line, which has no line end any more. The bytes that it brings are put at the start of out.
-pub fn read(line: &[u8], out: &mut [u8; MOST_BYTES]) -> Command
+#[tactic(auto, unfolding(crate::specs::Command::command_of, rules::specs::Bytes::splice))]
+pub fn read(line: &[u8], out: &mut [u8; MOST_BYTES]) -> Result<Command, Trouble>
     ensures { commands.CommandRead (commands.command_of line.now) out.old out.new result }
 {
     if LONGEST_LINE < line.len() {
-        return Command::Unreadable(Trouble::LineTooLong);
+        return Err(Trouble::LineTooLong);
     }
-    let name = first(line);
-    if name.len() == 0 {
-        return Command::Blank;
+    let word = first(line);
+    if word.is_empty() {
+        return Ok(Command::Blank);
     }
-    counted(name_of(name), line, out)
+    let name = name_of(word).ok_or(Trouble::UnknownCommand)?;
+    counted(arguments_of(name), line)?;
+    named(name, after(line), out)
 }

@@ -2,5 +2,6 @@
 #![tactic(auto)]
 
 pub mod command;
+mod count;
 pub mod name;
 pub mod object;

@@ -11,11 +11,12 @@ use lib.Seq.{ext_get_or}
 use lib.Dec.{eqb, ltb}
 use borrow.Author.Tests.{lt-ltb, le-ltb, le-leb, lt-leb, eq-eqb, ne_eqb}
 use Rattle.io.specs.Digits.{hex_digit_ascii}
-use Rattle.rules.specs.Repeat.{rising, list_below}
+use Rattle.rules.specs.Repeat.{list_below}
 use Rattle.laws.proofs.Tests.{both}
-use Rattle.laws.proofs.Repeat.{facts_all, length-list_below, get_or-list_below}
-use Rattle.bench_words.specs.declared.reading.Reading.TheVariants.{Value}
-use Rattle.bench_words.specs.Reading.{digit, digit_at, all_digits, value, pair, pair_at, hex_pairs, byte_count_of}
+use Rattle.laws.proofs.Repeat.{length-list_below, get_or-list_below}
+use Rattle.std.specs.Prelude.{Ok}
+use Rattle.std.specs.List.{list_all}
+use Rattle.bench_words.specs.Reading.{digit, all_digits, value, pair, pair_at, hex_pairs, byte_count_of}
 use Rattle.bench_words.proofs.Digits.{value_snoc}
 use Rattle.bench_text.specs.Put.{hex_of, numeral_within, numeral, decimal, hexadecimal}
 use Rattle.bench_text.proofs.Writing.{due}
@@ -77,21 +78,23 @@ hex_back bs h =
     get_or-list_below (length bs) (pair_at (hex_of bs)) i 0 k ∙ rw (hex_high bs i k, hex_low bs i k) (pair_back (get_or bs i 0) (h i k))))
 
 -- Every byte of the text is a digit.
-hex_digit : (bs : List ℕ) → Bytes bs → (k : ℕ) → k < length (hex_of bs) → digit_at (hex_of bs) k < 16
+hex_digit : (d : ℕ) → d < 16 → ltb (digit (hex_digit_ascii d)) 16 ≡ true
+hex_digit d h = rw (glyph_back d h) (lt-ltb d 16 h)
+
+all_hex : (bs : List ℕ) → Bytes bs → list_all (λ b. ltb (digit b) 16) (hex_of bs) ≡ true
 unfolding hex_of
-hex_digit [] h k l = absurd (omega arith)
-hex_digit (b ∷ bs) h zero l = let small = h 0 (omega arith) in omega (arith, glyph_back (b / 16) (omega arith))
-hex_digit (b ∷ bs) h (suc zero) l = let small = h 0 (omega arith) in omega (arith, glyph_back (b % 16) (omega arith))
-hex_digit (b ∷ bs) h (suc (suc k)) l = hex_digit bs (rest b bs h) k (omega arith)
+all_hex [] h = refl
+all_hex (b ∷ bs) h =
+    let small = h 0 (omega arith) in
+    both (hex_digit (b / 16) (omega arith)) (both (hex_digit (b % 16) (omega arith)) (all_hex bs (rest b bs h)))
 
 hex_digits : (bs : List ℕ) → Bytes bs → 0 < length bs → all_digits 16 (hex_of bs) ≡ true
 unfolding all_digits
 hex_digits bs h some =
-    both (ap not (ne_eqb (length (hex_of bs)) 0 (λ e. omega (arith, hex_length bs))))
-    (facts_all (length (hex_of bs)) (λ i. ltb (digit_at (hex_of bs) i) 16) (λ i l. lt-ltb (digit_at (hex_of bs) i) 16 (hex_digit bs h i l)))
+    both (ap not (ne_eqb (length (hex_of bs)) 0 (λ e. omega (arith, hex_length bs)))) (all_hex bs h)
 
 -- So are they counted, where there are any.
-pub count_back : (bs : List ℕ) → Bytes bs → 0 < length bs → byte_count_of (hex_of bs) ≡ Value (length bs)
+pub count_back : (bs : List ℕ) → Bytes bs → 0 < length bs → byte_count_of (hex_of bs) ≡ Ok (length bs)
 unfolding byte_count_of
 count_back bs h some =
     let long = hex_length bs in
@@ -115,7 +118,7 @@ module _ (base : ℕ) (some : 1 < base) (most : base ≤ 16) where
     further d l = rw (due least n d) (snoc_back (numeral_within k base (least - 1) (n / base)) n (back l))
 
     at_zero : (m : ℕ) → least ≡ m → n ≡ 0 → value base all ≡ n
-    unfolding all value rising
+    unfolding all value
     at_zero zero e z = rw (eq-eqb least 0 e, eq-eqb n 0 z) (sym z)
     at_zero (suc m) e z = further (λ o. absurd (omega arith)) (rw (z, zero-div base) (omega arith))
 
@@ -124,7 +127,7 @@ module _ (base : ℕ) (some : 1 < base) (most : base ≤ 16) where
     step h (no l) = at_zero least refl (omega arith)
 
   within_back : (k least n : ℕ) → n ≤ k → value base (numeral_within k base least n) ≡ n
-  unfolding numeral_within value rising all
+  unfolding numeral_within value all
   within_back zero least n h = omega arith
   within_back (suc k) least n h = step k least n (within_back k (least - 1) (n / base)) h (dec_lt 0 n)
 

@@ -1,21 +1,7 @@
 -- Texts in a row, with a bar behind each but the last.
-use Rattle.std.specs.Prelude.{ℕ, zero, suc, ◌+◌, ◌-◌, cond, List, length, drop, ltb}
-use Rattle.rules.specs.Bytes.{part}
-use Rattle.bench_words.specs.Split.{in_text, leading}
-
--- the end of the text that begins at a position
-abbrev pub piece_end : List ℕ → ℕ → ℕ
-piece_end texts start = start + leading in_text (drop start texts)
-
--- behind the bar there, if there is one
-abbrev pub behind : List ℕ → ℕ → ℕ
-behind texts at = cond (ltb at (length texts)) (at + 1) at
-
--- where text n begins
-unfoldable pub piece_start : List ℕ → ℕ → ℕ
-piece_start texts zero = 0
-piece_start texts (suc n) = behind texts (piece_end texts (piece_start texts n))
+use Rattle.std.specs.Prelude.{ℕ, List, [], eqb, slice_get, unwrap_or}
+use Rattle.std.specs.List.{slice_split}
 
 -- text n, none past the last one
-abbrev pub piece : ℕ → List ℕ → List ℕ
-piece n texts = part (piece_start texts n) (piece_end texts (piece_start texts n) - piece_start texts n) texts
+unfoldable pub piece : ℕ → List ℕ → List ℕ
+piece n texts = unwrap_or (slice_get (slice_split (λ b. eqb b 124) texts) n) []

@@ -2,22 +2,23 @@
 ghost use Rattle.std.specs.Prelude.{◌≡◌};
 ghost use Rattle.bench_words.specs.Reading as numbers;
 
-use crate::digit::{all_digits, limited_value};
+use crate::digit::{all_digits, value};
 use crate::number::unprefixed;
-use crate::reading::{Reading, Trouble};
+use crate::reading::Trouble;
 
 // The most digits of an identifier.
 const DIGITS: usize = 8;
 
-pub fn identifier(word: &[u8]) -> Reading
+#[tactic(auto, unfolding(crate::specs::Reading::identifier_of))]
+pub fn identifier(word: &[u8]) -> Result<u32, Trouble>
     ensures { result ≡ numbers.identifier_of word.now }
 {
     let digits = unprefixed(word);
     if !all_digits(digits, 16) {
-        return Reading::Unreadable(Trouble::NotAnIdentifier);
+        return Err(Trouble::NotAnIdentifier);
     }
     if DIGITS < digits.len() {
-        return Reading::Unreadable(Trouble::IdentifierTooLong);
+        return Err(Trouble::IdentifierTooLong);
     }
-    Reading::Value(limited_value(digits, 16) as u32)
+    Ok(value(digits, 16).unwrap())
 }

@@ -1,6 +1,5 @@
-// What comes of reading a word.
-
 // Why a line can't be read.
+
 #[derive(Clone, Copy)]
 pub enum Trouble {
     LineTooLong,
@@ -24,11 +23,4 @@ pub enum Trouble {
     UnexpectedWord,
     UnknownKind,
     TooManyObjects,
-}
-
-// The number that a word says, or the trouble with it.
-#[derive(Clone, Copy)]
-pub enum Reading {
-    Value(u32),
-    Unreadable(Trouble),
 }

@@ -1,21 +1,15 @@
 // The words of a line.
-ghost use Rattle.std.specs.Prelude.{◌≡◌, ◌+◌, ◌-◌, drop};
-ghost use Rattle.rules.specs.Bytes.{part, same_bytes};
-ghost use Rattle.bench_words.specs.Split.{is_blank, in_run, leading, next_word, word_at, word, first, after};
+ghost use Rattle.std.specs.Prelude.{◌≡◌, ◌-◌, ◌≤◌, length, drop};
+ghost use Rattle.std.specs.List.{prefix_len};
+ghost use Rattle.rules.specs.Bytes.{part};
+ghost use Rattle.bench_words.specs.Split.{is_blank, in_word, next_word, word_at, word, first, after};
 
-// Where a word stands: from start up to, not including, end. An empty one says that there is no further word.
+// Where a word stands: from start up to, not including, end. An empty one says that there is no further word; it has a place too, at which
+// `word_at` and `after` go on.
 #[derive(Clone, Copy)]
 pub struct Span {
     pub start: usize,
     pub end: usize,
-}
-
-// Bytes that belong together: blanks, those of a word, and those of one of several texts in a row.
-#[derive(Clone, Copy)]
-pub enum Run {
-    Blanks,
-    Word,
-    Text,
 }
 
 // Spaces, tabs and commas separate words.
@@ -25,42 +19,47 @@ fn is_blank(b: u8) -> bool
     (b == b' ') | (b == b'\t') | (b == b',')
 }
 
-// A comment ends a word, as a blank does; a bar ends a text.
-fn belongs(run: Run, b: u8) -> bool
-    ensures { result ≡ in_run run b }
+// A comment ends a word, as a blank does.
+fn in_word(b: u8) -> bool
+    ensures { result ≡ in_word b }
 {
-    let blank = is_blank(b);
-    match run {
-        Run::Blanks => blank,
-        Run::Word => !blank & (b != b'#'),
-        Run::Text => b != b'|',
-    }
+    !is_blank(b) & (b != b'#')
 }
 
-// The position after the run at a position.
-pub fn skip(line: &[u8], at: usize, run: Run) -> usize
-    ensures { result ≡ at + leading (in_run run) (drop at line.now) }
+// What stands from a position on; nothing past the end.
+fn rest(line: &[u8], at: usize) -> &[u8]
+    ensures { result.now ≡ drop at line.now }
 {
-    let mut i = at;
-    while i < line.len() {
-        if !belongs(run, line[i]) {
-            return i;
-        }
-        i += 1;
-    }
-    i
+    line.get(at..).unwrap_or(&[])
+}
+
+// How many blanks stand at the start of a text.
+fn blanks(text: &[u8]) -> usize
+    ensures number { result ≡ prefix_len is_blank text.now }
+    ensures within { result ≤ length text.now }
+{
+    text.iter().take_while(|b| is_blank(**b)).count()
+}
+
+// How long the word is at the start of a text.
+fn word_length(text: &[u8]) -> usize
+    ensures number { result ≡ prefix_len in_word text.now }
+    ensures within { result ≤ length text.now }
+{
+    text.iter().take_while(|b| in_word(**b)).count()
 }
 
 // The first word at or after a position.
 pub fn next_word(line: &[u8], at: usize) -> Span
     ensures { result ≡ next_word line.now at }
 {
-    let start = skip(line, at, Run::Blanks);
-    let end = skip(line, start, Run::Word);
+    let start = at + blanks(rest(line, at));
+    let end = start + word_length(rest(line, start));
     Span { start, end }
 }
 
 // Where word n stands. Word 0 is the command's name.
+#[tactic(auto, unfolding(crate::specs::Split::word_at))]
 pub fn word_at(line: &[u8], n: usize) -> Span
     ensures { result ≡ word_at line.now n }
 {
@@ -75,15 +74,11 @@ pub fn word_at(line: &[u8], n: usize) -> Span
 pub fn between(line: &[u8], start: usize, end: usize) -> &[u8]
     ensures { result.now ≡ part start (end - start) line.now }
 {
-    let stop = if end < line.len() { end } else { line.len() };
-    if start < stop {
-        &line[start..stop]
-    } else {
-        &line[..0]
-    }
+    line.get(start..end.min(line.len())).unwrap_or(&[])
 }
 
 // Word n of a line; empty where there is none.
+#[tactic(auto, unfolding(crate::specs::Split::word))]
 pub fn word(line: &[u8], n: usize) -> &[u8]
     ensures { result.now ≡ word n line.now }
 {
@@ -102,23 +97,5 @@ pub fn first(text: &[u8]) -> &[u8]
 pub fn after(text: &[u8]) -> &[u8]
     ensures { result.now ≡ after text.now }
 {
-    let span = next_word(text, 0);
-    between(text, span.end, text.len())
-}
-
-// Whether two words are the same.
-pub fn same(a: &[u8], b: &[u8]) -> bool
-    ensures { result ≡ same_bytes a.now b.now }
-{
-    if a.len() != b.len() {
-        return false;
-    }
-    let mut i = 0;
-    while i < a.len() {
-        if a[i] != b[i] {
-            return false;
-        }
-        i += 1;
-    }
-    true
+    rest(text, next_word(text, 0).end)
 }

@@ -6,7 +6,6 @@ use crate::print::{answered, changes, unreadable};
 use crate::same::same;
 use bench_lines::count::{of_bytes, of_words};
 use bench_words::bytes::{LONGEST_LINE, MOST_BYTES};
-use bench_words::reading::Reading;
 use bench_words::split::word;
 use can_calls::perform::{Played, perform};
 
@@ -90,9 +89,8 @@ pub fn play(
     if LONGEST_LINE < text.len() {
         return unreadable(out, at, line);
     }
-    let reading = bench_words::bytes::bytes(word(text, 0), bytes);
-    match reading {
-        Reading::Unreadable(_) => unreadable(out, at, line),
-        Reading::Value(n) => whole(out, at, line, bytes, n as usize, memory, sheet),
+    match bench_words::bytes::bytes(word(text, 0), bytes) {
+        Ok(n) => whole(out, at, line, bytes, n as usize, memory, sheet),
+        Err(_) => unreadable(out, at, line),
     }
 }

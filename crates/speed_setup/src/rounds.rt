@@ -8,9 +8,5 @@ const ROUNDS: u32 = 1024;
 pub fn rounds(rt: &impl Env) -> u32 {
     let mut buffer = [0u8; 16];
     let count = rt.arg(1, &mut buffer).unwrap_or(0);
-    let reading = bench_words::number::number(&buffer[..count]);
-    match reading {
-        bench_words::reading::Reading::Value(n) => n,
-        bench_words::reading::Reading::Unreadable(_) => ROUNDS,
-    }
+    bench_words::number::number(&buffer[..count]).unwrap_or(ROUNDS)
 }

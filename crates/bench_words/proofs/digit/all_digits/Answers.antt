@@ -1,25 +1,15 @@
-use Prim.Native.Nat.{ℕ}
-use native.Mathlib.Omega.{arith}
-use mathlib.Core.Path.{◌≡◌, refl, sym, ap}
-use mathlib.Core.Bool.{not, and-true}
-use lib.ListN.{length}
-use lib.Dec.{eqb, ltb}
-use Rattle.rules.specs.Repeat.{all_below}
-use Rattle.bench_words.specs.Reading.{all_digits}
-use Rattle.bench_words.proofs.Digits.{digits_more}
+-- `bench_words::digit::all_digits` meets its contract: the word is not empty, and each of its bytes is a digit.
+use Rattle.std.proofs.Common.{rules, tests, ◌≡◌}
+use Rattle.std.specs.Prelude.{ltb}
+use Rattle.std.specs.List.{list_all}
+use Rattle.std.proofs.lemmas.Iterator.{YieldsList-from_slice}
+use Rattle.std.proofs.lemmas.Iterator.Search.{all_from_yields_List}
+use Rattle.bench_words.specs.Reading.{digit, all_digits}
 use Rattle.bench_words.proofs.digit.all_digits.Goals as goal
 
-pub loop-i-init : goal.loop-i-init
-unfolding all_below
-loop-i-init c = (refl, omega arith, sym (and-true (not (eqb (length c.args.word.now) 0))))
-
-pub loop-i-preserved : goal.loop-i-preserved
-loop-i-preserved c =
-    let given = c.args in
-    (refl, omega arith, digits_more c.loop-i.i given.base given.word.now c.loop-i.invariant.2 (ap (λ (d : ℕ). ltb d given.base) c.digit.ensures.0))
-
-pub returns : goal.returns
+pub returns-then-not-is_empty : goal.returns-then-not-is_empty
 unfolding all_digits
-returns c =
-    let done : c.loop-i.i ≡ length c.args.word.now = omega arith in
-    rw done at c.loop-i.invariant.2
+returns-then-not-is_empty c =
+    let digits : c.all.result ≡ list_all (λ b. ltb (digit b) c.args.base) c.args.word.now =
+    all_from_yields_List (λ b. ltb (digit b) c.args.base) _ _ c.all.result c.all.ensures.ran (YieldsList-from_slice c.args.word.now cc) (λ x b q k. search (rules, tests)) in
+    rw (← c.is_empty.ensures, c.if-not-is_empty.true) digits
