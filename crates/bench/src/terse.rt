@@ -217,34 +217,19 @@ fn mailbox(out: &mut [u8], at: usize, m: Mailbox) -> usize {
 }
 
 fn controllers(out: &mut [u8], at: usize, state: State) -> usize {
-    let count = limited(state.controller_count, can::CONTROLLERS);
+    let core = state.core;
     let mut end = at;
-    for c in 0..count {
-        let k = Controller {
-            mode: state.modes[c],
-            requested_mode: state.requests[c],
-            bus_off: state.marks[c],
-        };
-        let e = Errors {
-            recovering: state.recoverings[c],
-            tx_errors: state.tx_errors[c],
-            rx_errors: state.rx_errors[c],
-        };
-        end = controller(out, end, k, e);
+    for c in 0..limited(core.controller_count, can::CONTROLLERS) {
+        end = controller(out, end, core.controllers.at(c), core.errors.at(c));
     }
     end
 }
 
 fn mailboxes(out: &mut [u8], at: usize, state: State) -> usize {
-    let count = limited(state.object_count, can::OBJECTS);
+    let core = state.core;
     let mut end = at;
-    for h in 0..count {
-        let m = Mailbox {
-            tx_pending: state.pendings[h],
-            tx_done: state.dones[h],
-            rx_full: state.fulls[h],
-        };
-        end = mailbox(out, end, m);
+    for h in 0..limited(core.object_count, can::OBJECTS) {
+        end = mailbox(out, end, core.mailboxes.at(h));
     }
     end
 }
@@ -252,9 +237,9 @@ fn mailboxes(out: &mut [u8], at: usize, state: State) -> usize {
 // The state: `LINE state I C N`, then each controller and each object in use.
 pub fn state(out: &mut [u8], at: usize, line: u64, state: State) -> usize {
     let mut end = put_decimal(out, at, line);
-    end = flag(out, end, b" state ", state.initialised);
-    end = numbered(out, end, b" ", state.controller_count as u64);
-    end = numbered(out, end, b" ", state.object_count as u64);
+    end = flag(out, end, b" state ", state.core.initialised);
+    end = numbered(out, end, b" ", state.core.controller_count as u64);
+    end = numbered(out, end, b" ", state.core.object_count as u64);
     end = controllers(out, end, state);
     end = mailboxes(out, end, state);
     put(out, end, b"\n")

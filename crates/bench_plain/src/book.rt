@@ -130,7 +130,7 @@ pub fn set_controllers(book: &mut [u64], count: u64) {
 pub fn owner(state: State, object: u32) -> usize {
     let h = object as usize;
     if h < OBJECTS {
-        state.owners[h] as usize
+        state.core.owners.at(h).controller as usize
     } else {
         CONTROLLERS
     }
@@ -138,40 +138,25 @@ pub fn owner(state: State, object: u32) -> usize {
 
 // One frame more, where a flag says so.
 fn count_if(book: &mut [u64], flag: bool, controller: usize, what: usize) {
-    if !flag {
-        return;
+    if flag {
+        count(book, controller, what);
     }
-    count(book, controller, what);
 }
 
-// Counts a frame that waits in an object, or that nobody has read.
-fn left_over(book: &mut [u64], state: State, h: usize) {
-    if OBJECTS <= h {
-        return;
-    }
-    let c = state.owners[h] as usize;
-    count_if(book, state.pendings[h], c, WAITING);
-    count_if(book, state.fulls[h], c, UNREAD);
-}
-
-// Counts the frames that wait or that nobody has read when the night ends.
+// Counts the frames that wait in an object, or that nobody has read, when the night ends.
 pub fn count_left_over(book: &mut [u64], state: State) {
     for h in 0..OBJECTS {
-        left_over(book, state, h);
+        let c = state.core.owners.at(h).controller as usize;
+        let m = state.core.mailboxes.at(h);
+        count_if(book, m.tx_pending, c, WAITING);
+        count_if(book, m.rx_full, c, UNREAD);
     }
-}
-
-// Counts the frame that a DeInit drops, where nobody has read it.
-fn drop_unread(book: &mut [u64], state: State, h: usize) {
-    if OBJECTS <= h {
-        return;
-    }
-    count_if(book, state.fulls[h], state.owners[h] as usize, DROPPED);
 }
 
 // Counts the frames that a DeInit drops: all that nobody has read.
 pub fn count_dropped(book: &mut [u64], state: State) {
     for h in 0..OBJECTS {
-        drop_unread(book, state, h);
+        let c = state.core.owners.at(h).controller as usize;
+        count_if(book, state.core.mailboxes.at(h).rx_full, c, DROPPED);
     }
 }

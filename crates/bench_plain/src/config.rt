@@ -7,20 +7,29 @@ use can_config::header::HEADER_SIZE;
 use can_config::record::RECORD_SIZE;
 use core_places::range::limited;
 
+// How many objects are in use.
+fn in_use(state: State) -> usize {
+    limited(state.core.object_count, OBJECTS)
+}
+
 // An object as its line in a script. A pool is said where it is not the object's own number.
 fn object(out: &mut [u8], at: usize, state: State, h: usize) -> usize {
-    if OBJECTS <= h {
-        return at;
+    let o = state.core.owners.at(h);
+    let s = state.settings.at(h);
+    let controller = o.controller as u64;
+    let payload = s.payload as u64;
+    if o.receiving {
+        return configs::receiving(
+            out,
+            at,
+            controller,
+            payload,
+            s.code as u64,
+            s.mask as u64,
+        );
     }
-    let controller = state.owners[h] as u64;
-    let payload = state.payloads[h] as u64;
-    if state.receivings[h] {
-        let code = state.codes[h] as u64;
-        let mask = state.masks[h] as u64;
-        return configs::receiving(out, at, controller, payload, code, mask);
-    }
-    let padding = state.paddings[h] as u64;
-    let pool = state.pools[h] as usize;
+    let padding = s.padding as u64;
+    let pool = o.pool as usize;
     if pool == h {
         return configs::sending(out, at, controller, payload, padding);
     }
@@ -29,39 +38,22 @@ fn object(out: &mut [u8], at: usize, state: State, h: usize) -> usize {
 
 // All of it.
 pub fn shown(out: &mut [u8], at: usize, state: State) -> usize {
-    let count = limited(state.object_count, OBJECTS);
-    let mut end = configs::controllers(out, at, state.controller_count as u64);
-    for h in 0..count {
+    let mut end = configs::controllers(out, at, state.core.controller_count as u64);
+    for h in 0..in_use(state) {
         end = object(out, end, state, h);
     }
     end
 }
 
-// Whether an object is in a pool that is not its own number.
-fn is_pooled(state: State, h: usize) -> bool {
-    if OBJECTS <= h {
-        return false;
-    }
-    !state.receivings[h] & (state.pools[h] as usize != h)
-}
-
-// The first such object; OBJECTS where there is none.
-fn first_pooled(state: State) -> usize {
-    let count = limited(state.object_count, OBJECTS);
-    for h in 0..count {
-        if is_pooled(state, h) {
-            return h;
+// Tells of the first object that is in a pool that is not its own number, where there is one.
+fn in_a_pool(out: &mut [u8], at: usize, state: State) -> usize {
+    for h in 0..in_use(state) {
+        let o = state.core.owners.at(h);
+        if !o.receiving & (o.pool as usize != h) {
+            return configs::in_a_pool(out, at, h as u64, o.pool as u64);
         }
     }
-    OBJECTS
-}
-
-fn in_a_pool(out: &mut [u8], at: usize, state: State) -> usize {
-    let h = first_pooled(state);
-    if OBJECTS <= h {
-        return at;
-    }
-    configs::in_a_pool(out, at, h as u64, state.pools[h] as u64)
+    at
 }
 
 // 9: there is no such version, there is no configuration yet, or version 1 is to say a pool.
@@ -69,7 +61,7 @@ fn cannot_say(out: &mut [u8], at: usize, state: State, version: u32) -> usize {
     if (version != 1) & (version != 2) {
         return configs::unknown_version(out, at, version as u64);
     }
-    if !state.initialised {
+    if !state.core.initialised {
         return configs::not_initialised(out, at);
     }
     in_a_pool(out, at, state)
@@ -87,8 +79,7 @@ pub fn refused(
     let end = refusals::verdict(out, at, reason);
     match reason {
         Rejection::SheetTooShort => {
-            let count = limited(state.object_count, OBJECTS);
-            let size = HEADER_SIZE + RECORD_SIZE * count;
+            let size = HEADER_SIZE + RECORD_SIZE * in_use(state);
             configs::short_room(out, end, room as u64, size as u64)
         }
         _ => cannot_say(out, end, state, version),

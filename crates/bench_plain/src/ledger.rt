@@ -63,8 +63,8 @@ pub fn note_call(
     let function = request.function;
     match function {
         Function::Sent => note_sent(book, request.object, line, accepted),
-        Function::Init => set_controllers(book, next.controller_count as u64),
-        Function::DeInit => note_dropped(book, before, next.initialised),
+        Function::Init => set_controllers(book, next.core.controller_count as u64),
+        Function::DeInit => note_dropped(book, before, next.core.initialised),
         _ => {}
     }
 }

@@ -8,7 +8,7 @@ use bench_say::form::{hex_or_none, to_column};
 use bench_script::name::Name;
 use bench_text::put::put;
 use bench_words::reading::Trouble;
-use can::{CONTROLLERS, ConfigReply, State};
+use can::{ConfigReply, State};
 use can_calls::answer::Answer;
 use can_calls::perform::Played;
 use can_calls::request::{Function, Request};
@@ -18,12 +18,7 @@ const ANSWER: usize = 66;
 
 // Whether a controller is off the bus.
 fn is_off(state: State, controller: u32) -> bool {
-    let c = controller as usize;
-    if c < CONTROLLERS {
-        state.marks[c]
-    } else {
-        false
-    }
+    state.core.controllers.at(controller as usize).bus_off
 }
 
 fn is_nobody(answer: Answer) -> bool {
@@ -67,8 +62,8 @@ fn accepted(
     if counts_errors(function) & is_off(next, request.controller) {
         return answers::counted_off(out, at, request.controller as u64);
     }
-    let controllers = next.controller_count as u64;
-    let objects = next.object_count as u64;
+    let controllers = next.core.controller_count as u64;
+    let objects = next.core.object_count as u64;
     let end = answers::answer(out, at, answer, function, told, controllers, objects);
     identified(out, end, answer, ram)
 }

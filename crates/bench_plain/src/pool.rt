@@ -4,18 +4,20 @@ use can::{OBJECTS, Rejection, State};
 use can_calls::request::{Function, Request};
 use core_places::range::limited;
 
+// How many objects are in use.
+fn in_use(state: State) -> usize {
+    limited(state.core.object_count, OBJECTS)
+}
+
 // Whether object i is a member of a pool.
 fn is_member(state: State, pool: u8, i: usize) -> bool {
-    if OBJECTS <= i {
-        return false;
-    }
-    !state.receivings[i] & (state.pools[i] == pool)
+    let o = state.core.owners.at(i);
+    !o.receiving & (o.pool == pool)
 }
 
 // The lowest member of a pool; OBJECTS where it has none.
 fn lowest(state: State, pool: u8) -> usize {
-    let count = limited(state.object_count, OBJECTS);
-    for i in 0..count {
+    for i in 0..in_use(state) {
         if is_member(state, pool, i) {
             return i;
         }
@@ -25,8 +27,7 @@ fn lowest(state: State, pool: u8) -> usize {
 
 // Whether a pool has a member beside object h.
 fn has_other(state: State, pool: u8, h: usize) -> bool {
-    let count = limited(state.object_count, OBJECTS);
-    for i in 0..count {
+    for i in 0..in_use(state) {
         if is_member(state, pool, i) & (i != h) {
             return true;
         }
@@ -51,11 +52,8 @@ fn is_pools(reason: Rejection) -> bool {
 
 // Whether an object sends in a pool with another one.
 fn shares(state: State, h: usize) -> bool {
-    if OBJECTS <= h {
-        return false;
-    }
-    let pool = state.pools[h];
-    (h < state.object_count) & is_member(state, pool, h) & has_other(state, pool, h)
+    let pool = state.core.owners.at(h).pool;
+    (h < in_use(state)) & is_member(state, pool, h) & has_other(state, pool, h)
 }
 
 // Whether such a refusal is told by the pool.
@@ -74,11 +72,7 @@ pub fn told(
     reason: Rejection,
     line: u64,
 ) -> usize {
-    let h = object as usize;
-    if OBJECTS <= h {
-        return at;
-    }
-    let pool = state.pools[h];
+    let pool = state.core.owners.at(object as usize).pool;
     match reason {
         Rejection::ParamHandle => {
             let lowest = lowest(state, pool) as u64;

@@ -4,27 +4,17 @@ use crate::night::Desk;
 use crate::{fault, pool};
 use bench_replies::refusals;
 use bench_say::say::{NUMBERS, one, three, two};
-use can::{CONTROLLERS, OBJECTS, RAM_SIZE, Rejection, SHEET_SIZE, State};
+use can::{RAM_SIZE, Rejection, SHEET_SIZE, State};
 use can_calls::request::{Function, Request};
 
 // The controller of an object; 0 if there is no such object.
 fn controller_of(state: State, object: u32) -> u64 {
-    let h = object as usize;
-    if h < OBJECTS {
-        state.owners[h] as u64
-    } else {
-        0
-    }
+    state.core.owners.at(object as usize).controller as u64
 }
 
 // The mode of a controller; 0 if there is no such controller.
 fn mode_of(state: State, controller: u32) -> u64 {
-    let c = controller as usize;
-    if c < CONTROLLERS {
-        state.modes[c] as u64
-    } else {
-        0
-    }
+    state.core.controllers.at(controller as usize).mode as u64
 }
 
 // The controller that a call names, or that of its object.
@@ -102,7 +92,7 @@ pub fn call(
     let numbers = numbers(reason, request, length, state, desk, line);
     let function = request.function;
     let identifier = request.identifier;
-    let initialised = state.initialised;
+    let initialised = state.core.initialised;
     refusals::refusal(
         out,
         end,

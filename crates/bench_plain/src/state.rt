@@ -11,13 +11,13 @@ use core_places::range::limited;
 
 // Whether the driver is initialised, and how much is configured.
 pub fn counts(out: &mut [u8], at: usize, state: State) -> usize {
-    let controllers = state.controller_count as u64;
+    let controllers = state.core.controller_count as u64;
     states::counts(
         out,
         at,
-        state.initialised,
+        state.core.initialised,
         controllers,
-        state.object_count as u64,
+        state.core.object_count as u64,
     )
 }
 
@@ -85,56 +85,35 @@ fn object(out: &mut [u8], at: usize, h: u64, o: Owner, m: Mailbox, s: Settings) 
     states::to_send(out, end, m.tx_pending, m.tx_done)
 }
 
-// The object at a place, with its settings and what it holds.
-fn place(out: &mut [u8], at: usize, state: State, h: usize) -> usize {
-    if can::OBJECTS <= h {
-        return at;
-    }
-    let o = Owner {
-        controller: state.owners[h],
-        receiving: state.receivings[h],
-        pool: state.pools[h],
-    };
-    let m = Mailbox {
-        tx_pending: state.pendings[h],
-        tx_done: state.dones[h],
-        rx_full: state.fulls[h],
-    };
-    let s = Settings {
-        payload: state.payloads[h],
-        padding: state.paddings[h],
-        code: state.codes[h],
-        mask: state.masks[h],
-    };
-    object(out, at, h as u64, o, m, s)
-}
-
 // Each configured controller.
 pub fn controllers(out: &mut [u8], at: usize, state: State) -> usize {
-    let count = limited(state.controller_count, can::CONTROLLERS);
+    let core = state.core;
     let mut end = at;
-    for c in 0..count {
-        let k = Controller {
-            mode: state.modes[c],
-            requested_mode: state.requests[c],
-            bus_off: state.marks[c],
-        };
-        let e = Errors {
-            recovering: state.recoverings[c],
-            tx_errors: state.tx_errors[c],
-            rx_errors: state.rx_errors[c],
-        };
-        end = controller(out, end, c as u64, k, e);
+    for c in 0..limited(core.controller_count, can::CONTROLLERS) {
+        end = controller(
+            out,
+            end,
+            c as u64,
+            core.controllers.at(c),
+            core.errors.at(c),
+        );
     }
     end
 }
 
 // Each configured object.
 pub fn objects(out: &mut [u8], at: usize, state: State) -> usize {
-    let count = limited(state.object_count, can::OBJECTS);
+    let core = state.core;
     let mut end = at;
-    for h in 0..count {
-        end = place(out, end, state, h);
+    for h in 0..limited(core.object_count, can::OBJECTS) {
+        end = object(
+            out,
+            end,
+            h as u64,
+            core.owners.at(h),
+            core.mailboxes.at(h),
+            state.settings.at(h),
+        );
     }
     end
 }

@@ -3,30 +3,21 @@ use crate::book;
 use crate::book::total;
 use crate::frames::{data, handle_in, sent, written};
 use bench_messages::{frames, totals};
-use can::{CONTROLLERS, OBJECTS, State};
-
-// Whether a controller is off the bus, and no poll has told so yet.
-fn is_off(state: State, controller: usize) -> bool {
-    if controller < CONTROLLERS {
-        return state.marks[controller];
-    }
-    false
-}
+use can::{OBJECTS, State};
 
 // The frame of an object, where one waits.
 fn one_of(out: &mut [u8], at: usize, state: State, book: &[u64], ram: &[u8], h: usize) -> usize {
-    if OBJECTS <= h {
-        return at;
-    }
-    if !state.pendings[h] {
+    let m = state.core.mailboxes.at(h);
+    if !m.tx_pending {
         return at;
     }
     let object = h as u32;
-    let controller = state.owners[h] as usize;
-    let off = is_off(state, controller);
+    let controller = state.core.owners.at(h).controller as usize;
+    // No poll has told yet that its controller is off the bus.
+    let off = state.core.controllers.at(controller).bus_off;
     let mut end = frames::waiting(out, at, controller as u64, off);
     end = written(out, end, book, ram, object, handle_in(ram, object));
-    end = sent(out, end, book, object, state.dones[h]);
+    end = sent(out, end, book, object, m.tx_done);
     data(out, end, ram, object)
 }
 

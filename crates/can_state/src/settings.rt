@@ -10,7 +10,7 @@ use can_chip::OBJECTS;
 use core_places::owners::Owners;
 use core_places::range::limited;
 
-#[derive(Clone, Copy)]
+#[derive(Clone, Copy, PartialEq, Eq)]
 pub struct Settings {
     pub payload: u8,
     pub padding: u8,

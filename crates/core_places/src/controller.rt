@@ -15,7 +15,7 @@ pub const SLEEP: u8 = 3;
 
 pub const NO_REQUEST: u8 = 0;
 
-#[derive(Clone, Copy)]
+#[derive(Clone, Copy, PartialEq, Eq)]
 pub struct Controller {
     pub mode: u8,
     pub requested_mode: u8,

@@ -23,7 +23,7 @@ pub const PASSIVE: u8 = 1;
 pub const BUS_OFF: u8 = 2;
 
 // The second mark, which a bus-off poll leaves and STARTED clears, and the two counts.
-#[derive(Clone, Copy)]
+#[derive(Clone, Copy, PartialEq, Eq)]
 pub struct Errors {
     pub recovering: bool,
     pub tx_errors: u32,

@@ -4,7 +4,7 @@ ghost use Rattle.rules.specs.Core as state;
 ghost use Rattle.core_places.specs.View as view;
 
 // A written frame waits, it was sent, a received frame waits to be read.
-#[derive(Clone, Copy)]
+#[derive(Clone, Copy, PartialEq, Eq)]
 pub struct Mailbox {
     pub tx_pending: bool,
     pub tx_done: bool,

@@ -3,7 +3,7 @@ ghost use Rattle.std.specs.Prelude.{◌≡◌};
 ghost use Rattle.rules.specs.Core as rules;
 ghost use Rattle.core_places.specs.View as view;
 
-#[derive(Clone, Copy)]
+#[derive(Clone, Copy, PartialEq, Eq)]
 pub struct Owner {
     pub controller: u8,
     pub receiving: bool,

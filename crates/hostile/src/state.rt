@@ -1,6 +1,11 @@
 // The driver state of a case: whatever its bytes say, valid or not.
 use crate::number::{flag, further, number, small};
 use can::{CONTROLLERS, OBJECTS, State};
+use can_state::settings::Settings;
+use core_places::controller::Controller;
+use core_places::errors::Errors;
+use core_places::mailbox::Mailbox;
+use core_places::owner::Owner;
 
 // Bytes of the parts of a state: whether it is initialised and the two counts, then the places.
 const HEAD: usize = 9;
@@ -18,132 +23,81 @@ const MAILBOXES_AT: usize = OBJECTS_AT + OBJECT * OBJECTS;
 // Bytes of a state.
 pub const STATE_BYTES: usize = MAILBOXES_AT + MAILBOX * OBJECTS;
 
-// One field of every place: that of the first place stands at a position, and that of each further one so many bytes further on.
-fn bytes_of(bytes: &[u8], first: usize, step: usize, field: &mut [u8]) {
-    let mut at = first;
-    let mut i = 0;
-    while i < field.len() {
-        field[i] = small(bytes, at);
-        at = further(at, step);
-        i += 1;
+// A controller by the bytes from a position on: its mode, its waiting request and its off-bus mark.
+fn controller(bytes: &[u8], at: usize) -> Controller {
+    Controller {
+        mode: small(bytes, at),
+        requested_mode: small(bytes, further(at, 1)),
+        bus_off: flag(bytes, further(at, 2)),
     }
 }
 
-// The same of a field that is a flag.
-fn flags_of(bytes: &[u8], first: usize, step: usize, field: &mut [bool]) {
-    let mut at = first;
-    let mut i = 0;
-    while i < field.len() {
-        field[i] = flag(bytes, at);
-        at = further(at, step);
-        i += 1;
+// Its second mark and its two error counts, which stand behind these.
+fn errors(bytes: &[u8], at: usize) -> Errors {
+    Errors {
+        recovering: flag(bytes, further(at, 3)),
+        tx_errors: number(bytes, further(at, 4)),
+        rx_errors: number(bytes, further(at, 8)),
     }
 }
 
-// The same of a field of four bytes.
-fn numbers_of(bytes: &[u8], first: usize, step: usize, field: &mut [u32]) {
-    let mut at = first;
-    let mut i = 0;
-    while i < field.len() {
-        field[i] = number(bytes, at);
-        at = further(at, step);
-        i += 1;
+// The controller, the kind and the pool of an object.
+fn owner(bytes: &[u8], at: usize) -> Owner {
+    Owner {
+        controller: small(bytes, at),
+        receiving: flag(bytes, further(at, 1)),
+        pool: small(bytes, further(at, 2)),
     }
 }
 
-// Mode, waiting request and off-bus mark of every controller.
+// Its payload, its padding value and its filter, which stand behind these.
+fn settings(bytes: &[u8], at: usize) -> Settings {
+    Settings {
+        payload: small(bytes, further(at, 3)),
+        padding: small(bytes, further(at, 4)),
+        code: number(bytes, further(at, 5)),
+        mask: number(bytes, further(at, 9)),
+    }
+}
+
+// What waits in an object.
+fn mailbox(bytes: &[u8], at: usize) -> Mailbox {
+    Mailbox {
+        tx_pending: flag(bytes, at),
+        tx_done: flag(bytes, further(at, 1)),
+        rx_full: flag(bytes, further(at, 2)),
+    }
+}
+
+// All controllers.
 fn with_controllers(bytes: &[u8], state: State) -> State {
-    let mut modes = state.modes;
-    let mut requests = state.requests;
-    let mut marks = state.marks;
-    bytes_of(bytes, HEAD, CONTROLLER, &mut modes);
-    bytes_of(bytes, HEAD + 1, CONTROLLER, &mut requests);
-    flags_of(bytes, HEAD + 2, CONTROLLER, &mut marks);
     let mut next = state;
-    next.modes = modes;
-    next.requests = requests;
-    next.marks = marks;
+    for c in 0..CONTROLLERS {
+        let at = HEAD + CONTROLLER * c;
+        next.core.controllers.set(c, controller(bytes, at));
+        next.core.errors.set(c, errors(bytes, at));
+    }
     next
 }
 
-// The second mark and the two error counts of every controller.
-fn with_errors(bytes: &[u8], state: State) -> State {
-    let mut recoverings = state.recoverings;
-    let mut tx_errors = state.tx_errors;
-    let mut rx_errors = state.rx_errors;
-    flags_of(bytes, HEAD + 3, CONTROLLER, &mut recoverings);
-    numbers_of(bytes, HEAD + 4, CONTROLLER, &mut tx_errors);
-    numbers_of(bytes, HEAD + 8, CONTROLLER, &mut rx_errors);
+// All objects.
+fn with_objects(bytes: &[u8], state: State) -> State {
     let mut next = state;
-    next.recoverings = recoverings;
-    next.tx_errors = tx_errors;
-    next.rx_errors = rx_errors;
-    next
-}
-
-// Controller, kind and pool of every object.
-fn with_owners(bytes: &[u8], state: State) -> State {
-    let mut owners = state.owners;
-    let mut receivings = state.receivings;
-    let mut pools = state.pools;
-    bytes_of(bytes, OBJECTS_AT, OBJECT, &mut owners);
-    flags_of(bytes, OBJECTS_AT + 1, OBJECT, &mut receivings);
-    bytes_of(bytes, OBJECTS_AT + 2, OBJECT, &mut pools);
-    let mut next = state;
-    next.owners = owners;
-    next.receivings = receivings;
-    next.pools = pools;
-    next
-}
-
-// Payload and padding value of every object.
-fn with_payloads(bytes: &[u8], state: State) -> State {
-    let mut payloads = state.payloads;
-    let mut paddings = state.paddings;
-    bytes_of(bytes, OBJECTS_AT + 3, OBJECT, &mut payloads);
-    bytes_of(bytes, OBJECTS_AT + 4, OBJECT, &mut paddings);
-    let mut next = state;
-    next.payloads = payloads;
-    next.paddings = paddings;
-    next
-}
-
-// The filter of every object.
-fn with_filters(bytes: &[u8], state: State) -> State {
-    let mut codes = state.codes;
-    let mut masks = state.masks;
-    numbers_of(bytes, OBJECTS_AT + 5, OBJECT, &mut codes);
-    numbers_of(bytes, OBJECTS_AT + 9, OBJECT, &mut masks);
-    let mut next = state;
-    next.codes = codes;
-    next.masks = masks;
-    next
-}
-
-// What waits in every object.
-fn with_mailboxes(bytes: &[u8], state: State) -> State {
-    let mut pendings = state.pendings;
-    let mut dones = state.dones;
-    let mut fulls = state.fulls;
-    flags_of(bytes, MAILBOXES_AT, MAILBOX, &mut pendings);
-    flags_of(bytes, MAILBOXES_AT + 1, MAILBOX, &mut dones);
-    flags_of(bytes, MAILBOXES_AT + 2, MAILBOX, &mut fulls);
-    let mut next = state;
-    next.pendings = pendings;
-    next.dones = dones;
-    next.fulls = fulls;
+    for h in 0..OBJECTS {
+        let at = OBJECTS_AT + OBJECT * h;
+        next.core.owners.set(h, owner(bytes, at));
+        next.settings.set(h, settings(bytes, at));
+        next.core
+            .mailboxes
+            .set(h, mailbox(bytes, MAILBOXES_AT + MAILBOX * h));
+    }
     next
 }
 
 pub fn state(bytes: &[u8]) -> State {
     let mut state = can::initial_state();
-    state.initialised = flag(bytes, 0);
-    state.controller_count = number(bytes, 1) as usize;
-    state.object_count = number(bytes, 5) as usize;
-    state = with_controllers(bytes, state);
-    state = with_errors(bytes, state);
-    state = with_owners(bytes, state);
-    state = with_payloads(bytes, state);
-    state = with_filters(bytes, state);
-    with_mailboxes(bytes, state)
+    state.core.initialised = flag(bytes, 0);
+    state.core.controller_count = number(bytes, 1) as usize;
+    state.core.object_count = number(bytes, 5) as usize;
+    with_objects(bytes, with_controllers(bytes, state))
 }

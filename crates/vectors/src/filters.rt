@@ -32,8 +32,10 @@ fn reason_of_state(code: u32, mask: u32) -> u32 {
     let mut sheet = [0u32; can::SHEET_SIZE];
     let called = can::init(can::initial_state(), &mut ram, &mut sheet, &K);
     let mut state = called.state;
-    state.codes[1] = code;
-    state.masks[1] = mask;
+    let mut settings = state.settings.at(1);
+    settings.code = code;
+    settings.mask = mask;
+    state.settings.set(1, settings);
     let asked = can::get_controller_mode(state, &mut sheet, 0);
     can::verdict_reason(asked.reply)
 }
