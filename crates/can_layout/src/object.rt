@@ -17,23 +17,16 @@ pub const DATA_SIZE: usize = OBJECT_SIZE - HEAD_SIZE;
 fn head(identifier: u32, wire: WireLength, handle: u16) -> [u8; HEAD_SIZE]
     ensures { result ≡ big_endian 4 identifier ++ (wire.length ∷ wire.dlc ∷ big_endian 2 handle) }
 {
-    [
-        ((identifier >> 24) % 256) as u8,
-        ((identifier >> 16) % 256) as u8,
-        ((identifier >> 8) % 256) as u8,
-        (identifier % 256) as u8,
-        wire.length,
-        wire.dlc,
-        ((handle >> 8) % 256) as u8,
-        (handle % 256) as u8,
-    ]
+    let [a, b, c, d] = identifier.to_be_bytes();
+    let [high, low] = handle.to_be_bytes();
+    [a, b, c, d, wire.length, wire.dlc, high, low]
 }
 
 // Whether memory of ram bytes holds the whole object, and a frame holds length bytes of data.
 fn has_room(object: usize, ram: usize, length: usize) -> bool
     ensures { result ≡ has_room object ram length }
 {
-    (object < ram / OBJECT_SIZE) & (length <= DATA_SIZE)
+    object < ram / OBJECT_SIZE && length <= DATA_SIZE
 }
 
 // Writes an object's data from position at: the sdu, padding up to the wire length, and zeros.

@@ -2,15 +2,13 @@
 ghost use Rattle.std.specs.Prelude.{◌≡◌, ◌+◌, ◌≤◌, ◌<◌, ◌^◌, length, replicate};
 ghost use Rattle.rules.specs.Bytes.{splice, number, part};
 
-// Writes all of source into ram from position at.
+// Writes all of source into ram from position at. A loop, since copy_from_slice was tried and made the calls slower.
 pub fn put_bytes(ram: &mut [u8], at: usize, source: &[u8])
     requires { at + length source.now ≤ length ram.old }
     ensures { ram.new ≡ splice at source.now ram.old }
 {
-    let mut i = 0;
-    while i < source.len() {
-        ram[at + i] = source[i];
-        i += 1;
+    for (i, byte) in source.iter().enumerate() {
+        ram[at + i] = *byte;
     }
 }
 
@@ -19,26 +17,14 @@ pub fn fill(ram: &mut [u8], at: usize, count: usize, value: u8)
     requires { at + count ≤ length ram.old }
     ensures { ram.new ≡ splice at (replicate count value) ram.old }
 {
-    let mut i = 0;
-    while i < count {
-        ram[at + i] = value;
-        i += 1;
-    }
+    ram[at..at + count].fill(value);
 }
 
 // Every byte becomes zero.
 pub fn clear(ram: &mut [u8])
     ensures { ram.new ≡ replicate (length ram.old) 0 }
 {
-    let size = ram.len();
-    fill(ram, 0, size, 0);
-}
-
-// A byte as a wider number.
-fn wide(byte: u8) -> u32
-    ensures { (result ≡ byte) × (result < 2 ^ 8) }
-{
-    byte as u32
+    ram.fill(0);
 }
 
 // The number that one byte spells.
@@ -46,7 +32,7 @@ pub fn byte(bytes: &[u8], at: usize) -> u32
     requires { at < length bytes.now }
     ensures { result ≡ number (part at 1 bytes.now) }
 {
-    wide(bytes[at])
+    u32::from(bytes[at])
 }
 
 // The number that two bytes spell, the highest first.
@@ -54,7 +40,7 @@ pub fn number_2(bytes: &[u8], at: usize) -> u32
     requires { at + 2 ≤ length bytes.now }
     ensures { (result ≡ number (part at 2 bytes.now)) × (result < 2 ^ 16) }
 {
-    wide(bytes[at]) * 256 + wide(bytes[at + 1])
+    u32::from(u16::from_be_bytes([bytes[at], bytes[at + 1]]))
 }
 
 // The number that four bytes spell, the highest first.
@@ -62,5 +48,5 @@ pub fn number_4(bytes: &[u8], at: usize) -> u32
     requires { at + 4 ≤ length bytes.now }
     ensures { result ≡ number (part at 4 bytes.now) }
 {
-    number_2(bytes, at) * 65536 + number_2(bytes, at + 2)
+    u32::from_be_bytes([bytes[at], bytes[at + 1], bytes[at + 2], bytes[at + 3]])
 }

@@ -45,6 +45,7 @@ pub enum Notification {
 pub const WORDS: usize = 4;
 
 // The four words of a notification.
+#[tactic(auto, unfolding(rules::specs::Notification::words))]
 fn words(n: Notification) -> [u32; WORDS]
     ensures { result ≡ rules.words (view n) }
 {
@@ -68,7 +69,7 @@ fn words(n: Notification) -> [u32; WORDS]
     }
 }
 
-// Writes four words from position at.
+// Writes four words from position at. Four stores, since copy_from_slice was tried and made the calls slower.
 fn put_words(sheet: &mut [u32], at: usize, words: [u32; WORDS])
     requires { at + words_each ≤ length sheet.old }
     ensures { sheet.new ≡ splice at words sheet.old }

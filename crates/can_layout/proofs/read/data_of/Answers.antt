@@ -1,7 +1,6 @@
 -- Each way out answers the tests that led there.
 use Prim.Native.Nat.{ℕ, ◌+◌}
 use native.Mathlib.Nat.{add-sub_cancel_left}
-use native.Mathlib.Omega.{arith}
 use lib.ListN.{length, get_or}
 use borrow.Author.Tests.{lt-ltb, le-ltb, le-leb, lt-leb, eq-eqb, ne_eqb}
 use Rattle.rules.specs.Limits.{ram_size, object_start}
@@ -22,9 +21,6 @@ unfolding data_of
 returns-then-ram-ne-RAM_SIZE c =
     let a = c.args in
     rw (lt-ltb a.object chip.objects c.if-object-ge-OBJECTS.false, ne_eqb (length a.ram.now) (ram_size chip) c.if-ram-ne-RAM_SIZE.true)
-
-pub overflow_cast-length : goal.overflow_cast-length
-overflow_cast-length c = omega (arith, c.shared_slice_known-1.given (length_at c.args.object))
 
 pub returns-then-length-gt-DATA_SIZE : goal.returns-then-length-gt-DATA_SIZE
 unfolding data_of

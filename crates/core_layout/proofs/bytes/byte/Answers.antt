@@ -4,4 +4,4 @@ use Rattle.laws.proofs.Splices.{number_one}
 use Rattle.core_layout.proofs.bytes.byte.Goals as goal
 
 pub returns : goal.returns
-returns c = let a = c.args in c.wide.ensures.0 ∙ sym (number_one a.at a.bytes.now)
+returns c = let a = c.args in c.from.ensures ∙ sym (number_one a.at a.bytes.now)
