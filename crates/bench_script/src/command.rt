@@ -281,7 +281,7 @@ fn named(name: Name, text: &[u8], out: &mut [u8; MOST_BYTES]) -> Result<Command,
 pub fn says_nothing(line: &[u8]) -> bool
     ensures { result ≡ commands.says_nothing line.now }
 {
-    (line.len() <= LONGEST_LINE) & first(line).is_empty()
+    line.len() <= LONGEST_LINE && first(line).is_empty()
 }
 
 // Reads a line, which has no line end any more. The bytes that it brings are put at the start of out.

@@ -74,7 +74,7 @@ fn put_words(text: &[u8], out: &mut [u8]) -> Result<u32, Trouble>
 fn is_none(text: &[u8]) -> bool
     ensures { result ≡ numbers.is_none text.now }
 {
-    (first(text) == b"-".as_slice()) && word(text, 1).is_empty()
+    first(text) == b"-".as_slice() && word(text, 1).is_empty()
 }
 
 // Puts the bytes that the words of a text say at the start of out, and answers how many there are, or the trouble with the first word that

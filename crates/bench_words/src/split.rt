@@ -16,14 +16,14 @@ pub struct Span {
 fn is_blank(b: u8) -> bool
     ensures { result ≡ is_blank b }
 {
-    (b == b' ') | (b == b'\t') | (b == b',')
+    matches!(b, b' ' | b'\t' | b',')
 }
 
 // A comment ends a word, as a blank does.
 fn in_word(b: u8) -> bool
     ensures { result ≡ in_word b }
 {
-    !is_blank(b) & (b != b'#')
+    !is_blank(b) && b != b'#'
 }
 
 // What stands from a position on; nothing past the end.
@@ -77,7 +77,7 @@ pub fn between(line: &[u8], start: usize, end: usize) -> &[u8]
     line.get(start..end.min(line.len())).unwrap_or(&[])
 }
 
-// Word n of a line; empty where there is none.
+// Word n of a line; empty where there is none, since what reads a word has trouble of its own with an empty one.
 #[tactic(auto, unfolding(crate::specs::Split::word))]
 pub fn word(line: &[u8], n: usize) -> &[u8]
     ensures { result.now ≡ word n line.now }
