@@ -1,8 +1,12 @@
 -- Lines of the input. docs/BENCH.md: a line ends with LF or CR LF, and the last one may end without.
-use Rattle.std.specs.Prelude.{ℕ, Option, ◌+◌, ◌-◌, ◌≤◌, ◌<◌, min, ◌≡◌, Bool, true, false, not, cond, ◌&&◌, List, length, get_or, take, drop, eqb, ltb, leb}
+use Rattle.std.specs.Prelude.{ℕ, Option, ◌+◌, ◌-◌, ◌≤◌, ◌<◌, min, ◌≡◌, Bool, true, false, cond, ◌&&◌, List, length, get_or, take, drop, eqb, ltb, leb}
 use Rattle.std.specs.List.{position_or_len}
 use Rattle.std.specs.Io.KnownBytes.{Consumes, IsAtEnd}
 use Rattle.rules.specs.Bytes.{splice}
+use Rattle.bench_lines.specs.declared.reader.Line.{Line}
+use Rattle.bench_lines.specs.declared.reader.Line.TheVariants.{Part, Whole}
+use Rattle.bench_lines.specs.declared.reader.Status.{Status}
+use Rattle.bench_lines.specs.declared.reader.Status.TheVariants.{Open, Ended, Failed}
 use Rattle.bench_lines.specs.declared.reader.Reader.{Reader}
 
 abbrev pub LF : ℕ
@@ -48,31 +52,49 @@ pub record Stretched (taken count : ℕ) (piece before after : List ℕ) (r : Re
   pub reader_is :
       r
       ≡ cond (line_ends (drop taken piece))
-      (record { taken = taken + length (line_part (drop taken piece)) + 1; filled = length piece; count = line_length after read; whole = true; ended = false; failed = false })
-      (record { taken = length piece; filled = length piece; count = read; whole = false; ended = false; failed = false })
+      (record { taken = taken + length (line_part (drop taken piece)) + 1; filled = length piece; line = Whole (line_length after read); status = Open })
+      (record { taken = length piece; filled = length piece; line = Part read; status = Open })
 
--- A new piece of at most so many bytes: what standard input has is not known, so neither is how much was read. Nothing read means that the
--- input has ended, and what is read of a line is then the whole of it: the last one may end without an LF. A read that fails reads nothing,
--- and a line that it cuts off is not whole.
+-- Nothing read means that the input has ended, and what is read of a line is then the whole of it: the last one may end without an LF.
+abbrev pub last_line : ℕ → Line
+last_line count = cond (ltb 0 count) (Whole count) (Part count)
+
+-- what is read of a line where the line's next piece was to be read: a line that a failed read cuts off is not whole
+abbrev pub line_after : ℕ → Status → Line
+line_after count Ended = last_line count
+line_after count Open = Part count
+line_after count Failed = Part count
+
+-- the input goes on; not where it has ended or could not be read
+abbrev pub goes_on : Status → Bool
+goes_on Open = true
+goes_on Ended = false
+goes_on Failed = false
+
+-- A new piece of at most so many bytes: what standard input has is not known, so neither is how much was read. The input goes on where
+-- something was read, and only there.
 pub record Refilled (count size : ℕ) (r : Reader) : Type 0 where
   pub within : r.filled ≤ size
-  pub failed_empty : r.failed ≡ true → r.filled ≡ 0
-  pub reader_is :
-      r ≡ record { taken = 0; filled = r.filled; count = count; whole = eqb r.filled 0 && ltb 0 count && not r.failed; ended = eqb r.filled 0; failed = r.failed }
+  pub read : goes_on r.status ≡ ltb 0 r.filled
+  pub reader_is : r ≡ record { taken = 0; filled = r.filled; line = line_after count r.status; status = r.status }
 
 -- What a new piece takes of the bytes that its source has left, where they are known: those that the piece has. Where it has none, though the
 -- buffer has room and nothing failed, none are left.
 pub record Drawn (before after : Option (List ℕ)) (input : List ℕ) (r : Reader) : Type 0 where
   pub taken : Consumes before after (take r.filled input)
-  pub at_the_end : r.ended ≡ true → r.failed ≡ false → 0 < length input → IsAtEnd after
+  pub at_the_end : r.status ≡ Ended → 0 < length input → IsAtEnd after
 
 -- nothing is read yet
 abbrev pub nothing_read : Reader
-nothing_read = record { taken = 0; filled = 0; count = 0; whole = false; ended = false; failed = false }
+nothing_read = record { taken = 0; filled = 0; line = Part 0; status = Open }
 
 -- how many bytes are read of the present line: a new one begins where the last one was whole
+abbrev pub read_of : Line → ℕ
+read_of (Part count) = count
+read_of (Whole count) = 0
+
 abbrev pub line_count : Reader → ℕ
-line_count reader = cond reader.whole 0 reader.count
+line_count reader = read_of reader.line
 
 -- how many bytes the piece has
 abbrev pub piece_size : Reader → List ℕ → ℕ

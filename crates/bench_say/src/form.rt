@@ -18,20 +18,14 @@ pub fn numbered(out: &mut [u8], at: usize, word: &[u8], n: u64) -> usize
 pub fn hex_or_none(out: &mut [u8], at: usize, bytes: &[u8]) -> usize
     ensures { Put at (forms.hex_or_none bytes.now) out.old out.new result }
 {
-    if bytes.len() == 0 {
-        return put(out, at, b"-");
+    match bytes {
+        [] => put(out, at, b"-"),
+        _ => put_hex(out, at, bytes),
     }
-    put_hex(out, at, bytes)
-}
-
-// How much a length lacks of a width.
-fn lacking(width: usize, length: usize) -> usize
-    ensures { result ≡ width - length }
-{
-    if width < length { 0 } else { width - length }
 }
 
 // How many digits a number has in decimal.
+#[tactic(auto, using(crate::proofs::Columns::decimal_long))]
 fn digits(n: u64) -> usize
     ensures { result ≡ length (decimal n) }
 {
@@ -40,10 +34,11 @@ fn digits(n: u64) -> usize
 }
 
 // A number at the right of so many columns.
+#[tactic(auto, unfolding(crate::specs::Form::right))]
 pub fn right(out: &mut [u8], at: usize, n: u64, width: usize) -> usize
     ensures { Put at (forms.right width n) out.old out.new result }
 {
-    let end = put_repeated(out, at, lacking(width, digits(n)), b' ');
+    let end = put_repeated(out, at, width.saturating_sub(digits(n)), b' ');
     put_decimal(out, end, n)
 }
 
@@ -51,15 +46,14 @@ pub fn right(out: &mut [u8], at: usize, n: u64, width: usize) -> usize
 fn gap(width: usize, used: usize) -> usize
     ensures { result ≡ forms.gap width used }
 {
-    let spaces = lacking(width, used);
-    if spaces < 2 { 2 } else { spaces }
+    width.saturating_sub(used).max(2)
 }
 
 // Spaces up to the column behind a text that began at start; at least two.
 pub fn to_column(out: &mut [u8], at: usize, start: usize, width: usize) -> usize
     ensures { Put at (forms.spaces (forms.gap width (at - start))) out.old out.new result }
 {
-    put_repeated(out, at, gap(width, lacking(at, start)), b' ')
+    put_repeated(out, at, gap(width, at.saturating_sub(start)), b' ')
 }
 
 const LINE_WIDTH: usize = 9;
@@ -67,6 +61,7 @@ const LINE_WIDTH: usize = 9;
 const IDENTIFIER_WIDTH: usize = 23;
 
 // A number at the left of its column.
+#[tactic(auto, unfolding(crate::specs::Form::left))]
 fn left(out: &mut [u8], at: usize, n: u64) -> usize
     ensures { Put at (forms.left n) out.old out.new result }
 {
@@ -75,6 +70,7 @@ fn left(out: &mut [u8], at: usize, n: u64) -> usize
 }
 
 // So many of something: the word takes an s, but for one.
+#[tactic(auto, unfolding(crate::specs::Form::count_of))]
 fn count_of(out: &mut [u8], at: usize, n: u64, word: &[u8]) -> usize
     ensures { Put at (forms.count_of word.now n) out.old out.new result }
 {
@@ -87,63 +83,53 @@ fn count_of(out: &mut [u8], at: usize, n: u64, word: &[u8]) -> usize
 }
 
 // A mode by its name.
+#[tactic(auto, unfolding(crate::specs::Form::mode_name))]
 fn mode(out: &mut [u8], at: usize, mode: u64) -> usize
     ensures { Put at (forms.mode_name mode) out.old out.new result }
 {
-    if mode == 0 {
-        return put(out, at, b"UNINIT");
+    match mode {
+        0 => put(out, at, b"UNINIT"),
+        1 => put(out, at, b"STARTED"),
+        2 => put(out, at, b"STOPPED"),
+        3 => put(out, at, b"SLEEP"),
+        _ => numbered(out, at, b"mode ", mode),
     }
-    if mode == 1 {
-        return put(out, at, b"STARTED");
-    }
-    if mode == 2 {
-        return put(out, at, b"STOPPED");
-    }
-    if mode == 3 {
-        return put(out, at, b"SLEEP");
-    }
-    let end = put(out, at, b"mode ");
-    put_decimal(out, end, mode)
 }
 
 // An error state by its name.
+#[tactic(auto, unfolding(crate::specs::Form::error_state_name))]
 fn error_state(out: &mut [u8], at: usize, state: u64) -> usize
     ensures { Put at (forms.error_state_name state) out.old out.new result }
 {
-    if state == 0 {
-        return put(out, at, b"error active");
+    match state {
+        0 => put(out, at, b"error active"),
+        1 => put(out, at, b"error passive"),
+        _ => put(out, at, b"bus-off"),
     }
-    if state == 1 {
-        return put(out, at, b"error passive");
-    }
-    put(out, at, b"bus-off")
 }
 
 // An error count as the driver tells it: 255 stands for every larger one too.
+#[tactic(auto, unfolding(crate::specs::Form::told_count))]
 fn told_count(out: &mut [u8], at: usize, n: u64) -> usize
     ensures { Put at (forms.told_count n) out.old out.new result }
 {
-    if 255 <= n {
-        return put(out, at, b"255 or more");
+    match n {
+        0..=254 => put_decimal(out, at, n),
+        _ => put(out, at, b"255 or more"),
     }
-    put_decimal(out, at, n)
 }
 
 // What the marks of an identifier say.
+#[tactic(auto, using(bench_text::proofs::Writing::nothing))]
 fn marks(out: &mut [u8], at: usize, identifier: u32) -> usize
     ensures { Put at (forms.marks identifier) out.old out.new result }
 {
-    let fd = is_fd(identifier);
-    if is_extended(identifier) {
-        if fd {
-            return put(out, at, b" extended FD");
-        }
-        return put(out, at, b" extended");
+    match (is_extended(identifier), is_fd(identifier)) {
+        (true, true) => put(out, at, b" extended FD"),
+        (true, false) => put(out, at, b" extended"),
+        (false, true) => put(out, at, b" FD"),
+        (false, false) => at,
     }
-    if fd {
-        return put(out, at, b" FD");
-    }
-    at
 }
 
 // The identifier word in a wider number.
@@ -154,6 +140,7 @@ fn word_in(n: u64) -> u32
 }
 
 // An identifier as it is typed, and what its marks say in words.
+#[tactic(auto, unfolding(crate::specs::Form::identifier))]
 fn identifier(out: &mut [u8], at: usize, n: u64) -> usize
     ensures { Put at (forms.identifier n) out.old out.new result }
 {
@@ -162,6 +149,7 @@ fn identifier(out: &mut [u8], at: usize, n: u64) -> usize
 }
 
 // The same in its column.
+#[tactic(auto, unfolding(crate::specs::Form::identifier_column))]
 fn identifier_column(out: &mut [u8], at: usize, n: u64) -> usize
     ensures { Put at (forms.identifier_column n) out.old out.new result }
 {
@@ -169,79 +157,62 @@ fn identifier_column(out: &mut [u8], at: usize, n: u64) -> usize
     to_column(out, end, at, IDENTIFIER_WIDTH)
 }
 
-// How many columns a digit asks for.
-fn columns(sign: u8) -> usize
-    ensures { result ≡ sign - 48 }
-{
-    lacking(sign as usize, 48)
-}
-
+// Whether a sign counts something.
 fn is_unit(sign: u8) -> bool
     ensures { result ≡ forms.is_unit sign }
 {
-    (sign == b'b') | (sign == b'w') | (sign == b'c') | (sign == b'o')
+    matches!(sign, b'b' | b'w' | b'c' | b'o')
 }
 
 // So many bytes, words, controllers or objects.
 fn units(out: &mut [u8], at: usize, sign: u8, n: u64) -> usize
     ensures { Put at (forms.count_of (forms.unit sign) n) out.old out.new result }
 {
-    if sign == b'b' {
-        return count_of(out, at, n, b" byte");
+    match sign {
+        b'b' => count_of(out, at, n, b" byte"),
+        b'w' => count_of(out, at, n, b" word"),
+        b'c' => count_of(out, at, n, b" controller"),
+        _ => count_of(out, at, n, b" object"),
     }
-    if sign == b'w' {
-        return count_of(out, at, n, b" word");
-    }
-    if sign == b'c' {
-        return count_of(out, at, n, b" controller");
-    }
-    count_of(out, at, n, b" object")
 }
 
 // How many digits a number in hexadecimal has at least.
 fn hex_digits(sign: u8) -> usize
     ensures { result ≡ forms.hex_digits sign }
 {
-    if sign == b'h' {
-        return 2;
+    match sign {
+        b'h' => 2,
+        b'H' => 8,
+        _ => 3,
     }
-    if sign == b'H' { 8 } else { 3 }
 }
 
 // A number in a form that has a letter of its own.
+#[tactic(auto, unfolding(crate::specs::Form::named))]
 fn named(out: &mut [u8], at: usize, sign: u8, n: u64) -> usize
     ensures { Put at (forms.named sign n) out.old out.new result }
 {
-    if sign == b'l' {
-        return left(out, at, n);
+    match sign {
+        b'l' => left(out, at, n),
+        b'm' => mode(out, at, n),
+        b'e' => error_state(out, at, n),
+        b'n' => told_count(out, at, n),
+        b'i' => identifier(out, at, n),
+        b'I' => identifier_column(out, at, n),
+        _ => put_hexadecimal(out, at, n, hex_digits(sign)),
     }
-    if sign == b'm' {
-        return mode(out, at, n);
-    }
-    if sign == b'e' {
-        return error_state(out, at, n);
-    }
-    if sign == b'n' {
-        return told_count(out, at, n);
-    }
-    if sign == b'i' {
-        return identifier(out, at, n);
-    }
-    if sign == b'I' {
-        return identifier_column(out, at, n);
-    }
-    put_hexadecimal(out, at, n, hex_digits(sign))
 }
 
 // A number in the form that a sign says.
+#[tactic(auto, unfolding(crate::specs::Form::formed))]
 pub fn formed(out: &mut [u8], at: usize, sign: u8, n: u64) -> usize
     ensures { Put at (forms.formed sign n) out.old out.new result }
 {
     if sign <= b'9' {
-        return right(out, at, n, columns(sign));
+        right(out, at, n, usize::from(sign.saturating_sub(b'0')))
+    } else if is_unit(sign) {
+        units(out, at, sign, n)
+    } else {
+        named(out, at, sign, n)
     }
-    if is_unit(sign) {
-        return units(out, at, sign, n);
-    }
-    named(out, at, sign, n)
 }

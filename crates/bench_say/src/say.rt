@@ -8,13 +8,13 @@
 //     %n             an error count as the driver tells it
 //     %i %I          an identifier, and one in its column
 //     %x %h %H       in hexadecimal, with at least three, two or eight digits
-ghost use Rattle.std.specs.Prelude.{◌≡◌, ◌≤◌, get_or};
+ghost use Rattle.std.specs.Prelude.{◌≡◌};
 ghost use Rattle.bench_words.specs.Piece.{piece};
 ghost use Rattle.bench_text.specs.Put.{Put};
 ghost use Rattle.bench_say.specs.Say as says;
 
 use crate::form::formed;
-use bench_text::put::put_repeated;
+use bench_text::put::put;
 use bench_words::piece::piece;
 
 // The most numbers of a text.
@@ -45,54 +45,19 @@ pub fn four(a: u64, b: u64, c: u64, d: u64) -> [u64; NUMBERS]
     [a, b, c, d, 0]
 }
 
-// Number k; 0 behind the last one.
-fn number_at(numbers: [u64; NUMBERS], k: usize) -> u64
-    ensures { result ≡ get_or numbers k 0 }
-{
-    if k < NUMBERS { numbers[k] } else { 0 }
-}
-
-// What a byte of a text comes to.
-fn turn(out: &mut [u8], at: usize, hole: bool, byte: u8, n: u64) -> usize
-    ensures { Put at (says.turn hole byte n) out.old out.new result }
-{
-    if hole {
-        return formed(out, at, byte, n);
-    }
-    if byte == b'%' {
-        return at;
-    }
-    put_repeated(out, at, 1, byte)
-}
-
-// Whether a hole is open behind a byte.
-fn opens(hole: bool, byte: u8) -> bool
-    ensures { result ≡ says.opens hole byte }
-{
-    !hole & (byte == b'%')
-}
-
-// How many numbers a byte takes.
-fn taken(hole: bool) -> usize
-    ensures { (result ≡ says.taken hole) × (result ≤ 1) }
-{
-    if hole { 1 } else { 0 }
-}
-
-// A text with its numbers.
+// A text with its numbers; behind the last one each is 0.
 pub fn say(out: &mut [u8], at: usize, text: &[u8], numbers: [u64; NUMBERS]) -> usize
     ensures { Put at (says.said_of text.now numbers) out.old out.new result }
 {
     let mut end = at;
-    let mut hole = false;
-    let mut k = 0;
-    let mut i = 0;
-    while i < text.len() {
-        let byte = text[i];
-        end = turn(out, end, hole, byte, number_at(numbers, k));
-        k += taken(hole);
-        hole = opens(hole, byte);
-        i += 1;
+    let mut left = numbers.iter();
+    let mut bytes = text.iter();
+    while let Some(byte) = bytes.next() {
+        if *byte != b'%' {
+            end = put(out, end, &[*byte]);
+        } else if let Some(sign) = bytes.next() {
+            end = formed(out, end, *sign, left.next().copied().unwrap_or(0));
+        }
     }
     end
 }

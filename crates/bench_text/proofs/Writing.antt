@@ -1,71 +1,32 @@
 -- A text in a buffer, as much of it as fits; one text behind another; and the digits of numbers and bytes.
 use Prim.Native.Nat.{ℕ, zero, suc, ◌+◌, ◌-◌, ◌/◌, ◌%◌, ◌^◌, ◌≤◌, ◌<◌, min}
-use mathlib.Core.Path.{◌≡◌, refl, sym, ap, ◌∙◌}
+use mathlib.Core.Path.{◌≡◌, refl, ap, ◌∙◌}
 use mathlib.Core.Bool.{false, ◌&&◌}
 use mathlib.Core.List.{List, [], ◌∷◌, ◌++◌}
 use native.Mathlib.Omega.{arith}
 use native.Mathlib.Decide.{dec_le}
-use native.Mathlib.Nat.{min-eq_left, min-eq_right, min-le_left, min-le_right, pow-zero, pow-suc, one-le-pow, mul-le-mul_left, div-lt_iff_lt-mul, le-div_iff_mul-le}
+use native.Mathlib.Nat.{min-le_left, pow-zero, pow-suc, one-le-pow, mul-le-mul_left, div-lt_iff_lt-mul, le-div_iff_mul-le}
 use borrow.Author.Tests.{eq-eqb, ne_eqb}
 use lib.Dec.{eqb}
-use lib.ListN.{length, take, replicate, length-take, length-append, length-replicate}
-use lib.Seq.{take_all, length-take-le, take-nil}
+use lib.ListN.{length, take, length-take, length-append}
 use Rattle.rules.specs.Bytes.{splice}
 use Rattle.io.specs.Digits.{hex_digit_ascii, last_digits, IsDigitCount}
 use Rattle.laws.proofs.Splices.{splice_nil, splice_splice, length_splice}
 use Rattle.bench_text.specs.Put.{fitting, Put, numeral_within, numeral, hex_of}
 
--- as many elements as there is room for, or all
-pub take_fitting : (room : ℕ) (l : List ℕ) → take (min room (length l)) l ≡ take room l
-take_fitting room l = go (dec_le room (length l))
+-- there is no room, or no text
+pub nothing_fits : (at : ℕ) (text before : List ℕ) → min (length before - at) (length text) ≡ 0 → Put at text before before at
+nothing_fits at text before e =
+    let none : fitting (length before) at text ≡ [] = empty (take (length before - at) text) (length-take (length before - at) text ∙ e) in
+    record { text_is = rw (none, splice_nil); end_is = rw none (omega arith) }
   where
-    go : Dec (room ≤ length l) → take (min room (length l)) l ≡ take room l
-    go (yes h) = rw (min-eq_left h)
-    go (no h) = rw (min-eq_right {n = length l} {m = room} (omega arith), take_all (length l) l (omega arith), take_all room l (omega arith))
-
--- the same of one element over and over
-pub take-replicate : (room n a : ℕ) → take room (replicate n a) ≡ replicate (min room n) a
-take-replicate room n a = go (dec_le room n)
-  where
-    shorter : (m k : ℕ) → m ≤ k → take m (replicate k a) ≡ replicate m a
-    shorter zero k h = refl
-    shorter (suc m) zero h = absurd (omega arith)
-    shorter (suc m) (suc k) h = ap (λ (l : List ℕ). a ∷ l) (shorter m k (omega arith))
-
-    go : Dec (room ≤ n) → take room (replicate n a) ≡ replicate (min room n) a
-    go (yes h) = rw (min-eq_left h) (shorter room n h)
-    go (no h) = rw (min-eq_right {n = n} {m = room} (omega arith)) (take_all room (replicate n a) (rw (length-replicate n a) (omega arith)))
-
--- fitted is what fits of a text, count long, as the code has it
-module _ (at count : ℕ) (text fitted before : List ℕ) (is : fitted ≡ fitting (length before) at text) (long : length fitted ≡ count) where
-  pub written : {after : List ℕ} → after ≡ splice at fitted before → Put at text before after (at + count)
-  written e = record { text_is = rw (← is) e; end_is = rw (← is, long) }
-
-  -- nothing fits, and nothing was written
-  pub nothing_fits : count ≡ 0 → Put at text before before at
-  nothing_fits e =
-      let none : fitted ≡ [] = empty fitted (long ∙ e) in
-      record { text_is = rw (← is, none, splice_nil); end_is = rw (← is, none) (omega arith) }
-    where
-      empty : (l : List ℕ) → length l ≡ 0 → l ≡ []
-      empty [] h = refl
-      empty (x ∷ l) h = absurd (omega arith)
-
--- count is how much of a text fits, as the code has it
-module _ (at count : ℕ) (text before : List ℕ) (is : count ≡ min (length before - at) (length text)) where
-  pub fitted_is : take count text ≡ fitting (length before) at text
-  fitted_is = rw is (take_fitting (length before - at) text)
-
-  pub fitted_long : length (take count text) ≡ count
-  fitted_long = length-take-le count text (rw is (min-le_right (length before - at) (length text)))
-
--- what fits, fits
-pub within : (size at n count : ℕ) → count ≡ min (size - at) n → (count ≡ 0 → ⊥) → at + count ≤ size
-within size at n count is some = omega (arith, rw (← is) at (min-le_left (size - at) n), some)
+    empty : (l : List ℕ) → length l ≡ 0 → l ≡ []
+    empty [] h = refl
+    empty (x ∷ l) h = absurd (omega arith)
 
 -- no text
 pub nothing : (at : ℕ) (before : List ℕ) → Put at [] before before at
-nothing at before = nothing_fits at 0 [] [] before (sym (take-nil (length before - at))) refl refl
+nothing at before = nothing_fits at [] before (omega arith)
 
 -- the first so many elements of two lists in a row
 take-append : (room : ℕ) (a b : List ℕ) → take room (a ++ b) ≡ take room a ++ take (room - length (take room a)) b

@@ -9,24 +9,18 @@ use core_layout::bytes::{fill, put_bytes};
 pub fn has_room(size: usize, at: usize, count: usize) -> bool
     ensures { result ≡ puts.has_room size at count }
 {
-    if size < at {
-        return false;
-    }
-    count <= size - at
+    at <= size && count <= size - at
 }
 
 // How many of count bytes fit from position at on.
 fn fitting(size: usize, at: usize, count: usize) -> usize
     ensures { result ≡ min (size - at) count }
 {
-    if size < at {
-        return 0;
-    }
-    let room = size - at;
-    if room < count { room } else { count }
+    size.saturating_sub(at).min(count)
 }
 
 // Bytes as they are.
+#[tactic(auto, using(crate::proofs::Writing::nothing_fits))]
 pub fn put(out: &mut [u8], at: usize, bytes: &[u8]) -> usize
     ensures { puts.Put at bytes.now out.old out.new result }
 {
@@ -39,6 +33,7 @@ pub fn put(out: &mut [u8], at: usize, bytes: &[u8]) -> usize
 }
 
 // One byte over and over.
+#[tactic(auto, using(crate::proofs::Writing::nothing_fits))]
 pub fn put_repeated(out: &mut [u8], at: usize, count: usize, byte: u8) -> usize
     ensures { puts.Put at (replicate count byte) out.old out.new result }
 {
@@ -51,6 +46,7 @@ pub fn put_repeated(out: &mut [u8], at: usize, count: usize, byte: u8) -> usize
 }
 
 // A number in decimal.
+#[tactic(auto, using(crate::proofs::Writing::numeral_is))]
 pub fn put_decimal(out: &mut [u8], at: usize, n: u64) -> usize
     ensures { puts.Put at (puts.decimal n) out.old out.new result }
 {
@@ -60,6 +56,7 @@ pub fn put_decimal(out: &mut [u8], at: usize, n: u64) -> usize
 }
 
 // A number in hexadecimal, with zeros in front up to width digits; a width of 0 counts as 1, and one above 16 as 16.
+#[tactic(auto, using(crate::proofs::Writing::numeral_is))]
 pub fn put_hexadecimal(out: &mut [u8], at: usize, n: u64, width: usize) -> usize
     ensures { puts.Put at (puts.hexadecimal width n) out.old out.new result }
 {
@@ -77,6 +74,7 @@ fn glyph(n: u8) -> u8
 }
 
 // Two hex digits for a byte.
+#[tactic(auto, unfolding(crate::specs::Put::hex_of))]
 fn put_pair(out: &mut [u8], at: usize, byte: u8) -> usize
     ensures { puts.Put at (puts.hex_of (byte ∷ [])) out.old out.new result }
 {
@@ -89,10 +87,8 @@ pub fn put_hex(out: &mut [u8], at: usize, bytes: &[u8]) -> usize
     ensures { puts.Put at (puts.hex_of bytes.now) out.old out.new result }
 {
     let mut end = at;
-    let mut i = 0;
-    while i < bytes.len() {
-        end = put_pair(out, end, bytes[i]);
-        i += 1;
+    for byte in bytes {
+        end = put_pair(out, end, *byte);
     }
     end
 }

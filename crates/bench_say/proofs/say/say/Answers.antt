@@ -1,31 +1,26 @@
-use Prim.Native.Nat.{◌<◌}
-use mathlib.Core.Path.{refl}
+use mathlib.Core.Path.{◌≡◌, refl}
+use lib.ListN.{drop, get_or}
 use native.Mathlib.Omega.{arith}
-use native.Mathlib.Numerals.{add-one}
-use lib.ListN.{length}
-use Rattle.bench_say.proofs.Saying.{begun, on, ended}
-use borrow.Author.Rules.{rules}
+use Rattle.std.proofs.lemmas.Grind.{common_steps}
+use Rattle.bench_say.specs.Say.{said_of}
+use Rattle.bench_say.proofs.Saying.{begun, on_plain, on_hole, on_last, ended}
 use Rattle.bench_say.proofs.say.say.Goals as goal
 
-pub loop-i-init : goal.loop-i-init
-loop-i-init c =
-    let a = c.args in
-    (omega arith, omega arith, refl, begun a.at a.text.now a.numbers a.out.now)
+pub loop-byte-init : goal.loop-byte-init
+loop-byte-init c = let a = c.args in rw (c.iter-bytes.ensures.rest, c.iter-left.ensures.rest) (begun a.at (said_of a.text.now a.numbers) a.out.now a.text.now a.numbers refl)
 
-pub loop-i-preserved : goal.loop-i-preserved
-loop-i-preserved c =
-    let turn = c.loop-i in
-    let a = c.args in
-    let more : turn.i < length a.text.now = search rules in
-    let said = on a.at a.text.now a.numbers a.out.now turn.end c.turn-end.result turn.hole turn.i turn.k more turn.invariant.3
-    (rw c.number_at.ensures at c.turn-end.ensures) in
-    (search rules, omega (arith, c.taken-k.ensures.1), search rules, rw (c.opens-hole.ensures, c.taken-k.ensures.0, add-one) said)
+pub loop-byte-preserved-then-byte-ne37 : goal.loop-byte-preserved-then-byte-ne37
+loop-byte-preserved-then-byte-ne37 c = on_plain _ _ _ c.loop-byte.invariant c.in-Some.ensures.steps c.if-byte-ne37.true c.put-end.ensures
 
-pub shape_of-out : goal.shape_of-out
-shape_of-out c = c.loop-i.invariant.2
+pub loop-byte-preserved-in-Some-next : goal.loop-byte-preserved-in-Some-next
+loop-byte-preserved-in-Some-next c =
+    let left = c.loop-byte.left.rest.now in
+    let number : c.unwrap_or.result ≡ get_or left 0 0 = grind (arith, common_steps) in
+    let behind : c.next-in-Some-next.new.self.rest.now ≡ drop 1 left = grind (arith, common_steps) in
+    on_hole _ _ _ c.loop-byte.invariant (rw c.in-Some-next.ensures.steps at c.in-Some.ensures.steps) c.if-byte-ne37.false number behind c.formed-end.ensures
+
+pub loop-byte-preserved : goal.loop-byte-preserved
+loop-byte-preserved c = rw c.in_default-next.ensures.steps.1 (on_last _ _ _ c.loop-byte.invariant c.in-Some.ensures.steps c.if-byte-ne37.false c.in_default-next.ensures.steps.0)
 
 pub returns : goal.returns
-returns c =
-    let a = c.args in
-    let turn = c.loop-i in
-    ended a.at a.text.now a.numbers a.out.now turn.end turn.hole turn.i turn.k (search rules) turn.invariant.3
+returns c = ended _ _ _ c.loop-byte.invariant c.in_default.ensures.steps.0

@@ -1,2 +1,0 @@
--- Laws of lines.
-pub mod Lines
