@@ -12,12 +12,9 @@ use Rattle.bench_words.specs.declared.reading.Trouble.{Trouble}
 use Rattle.bench_words.specs.declared.reading.Trouble.TheVariants as troubles
 use Rattle.bench_script.specs.declared.name.Name.{Name}
 use Rattle.bench_script.specs.declared.name.Name.TheVariants as names
-use Rattle.can_faults.specs.declared.fault.Rule.{Rule}
-use Rattle.can_faults.specs.declared.fault.Rule.TheVariants as rules
 use Rattle.bench_messages.specs.Troubles.{trouble_text, usage_text, word_text}
-use Rattle.bench_messages.specs.Faults.{fault_text}
 use Rattle.bench_messages.specs.Totals.{rows}
-use Rattle.bench_messages.specs.Places.{trouble_place, name_place, rule_place}
+use Rattle.bench_messages.specs.Places.{trouble_place, name_place}
 
 pub trouble_found : (x : Trouble) → piece (trouble_place x) (joined (trouble_text troubles.LineTooLong ∷ trouble_text troubles.UnknownCommand ∷ trouble_text troubles.WordMissing ∷ trouble_text troubles.WordTooMany ∷ trouble_text troubles.NotANumber ∷ trouble_text troubles.NumberTooLarge ∷ trouble_text troubles.NotAnIdentifier ∷ trouble_text troubles.IdentifierTooLong ∷ trouble_text troubles.NotHexDigits ∷ trouble_text troubles.OddDigits ∷ trouble_text troubles.NotOneByte ∷ trouble_text troubles.NotAMode ∷ trouble_text troubles.UnknownPoll ∷ trouble_text troubles.HandleTooLarge ∷ trouble_text troubles.SheetTooLong ∷ trouble_text troubles.MemoryTooLong ∷ trouble_text troubles.RoomTooLarge ∷ trouble_text troubles.ByteTooLarge ∷ trouble_text troubles.UnexpectedWord ∷ trouble_text troubles.UnknownKind ∷ trouble_text troubles.TooManyObjects ∷ [])) ≡ ascii (trouble_text x)
 unfolding piece_start leading
@@ -92,31 +89,6 @@ word_found troubles.ByteTooLarge = refl
 word_found troubles.UnexpectedWord = refl
 word_found troubles.UnknownKind = refl
 word_found troubles.TooManyObjects = refl
-
-pub fault_found : (x : Rule) → piece (rule_place x) (joined (fault_text rules.Accepted ∷ fault_text rules.Mark ∷ fault_text rules.Version ∷ fault_text rules.Controllers ∷ fault_text rules.Objects ∷ fault_text rules.ZeroByte ∷ fault_text rules.Size ∷ fault_text rules.Controller ∷ fault_text rules.Kind ∷ fault_text rules.Payload ∷ fault_text rules.SendingCode ∷ fault_text rules.SendingMask ∷ fault_text rules.Pool ∷ fault_text rules.ReceivingPadding ∷ fault_text rules.CodeBits ∷ fault_text rules.MaskBits ∷ fault_text rules.StandardCode ∷ fault_text rules.StandardMask ∷ fault_text rules.StrayBit ∷ fault_text rules.PoolController ∷ fault_text rules.PoolPayload ∷ fault_text rules.PoolPadding ∷ [])) ≡ ascii (fault_text x)
-unfolding piece_start leading
-fault_found rules.Accepted = refl
-fault_found rules.Mark = refl
-fault_found rules.Version = refl
-fault_found rules.Controllers = refl
-fault_found rules.Objects = refl
-fault_found rules.ZeroByte = refl
-fault_found rules.Size = refl
-fault_found rules.Controller = refl
-fault_found rules.Kind = refl
-fault_found rules.Payload = refl
-fault_found rules.SendingCode = refl
-fault_found rules.SendingMask = refl
-fault_found rules.Pool = refl
-fault_found rules.ReceivingPadding = refl
-fault_found rules.CodeBits = refl
-fault_found rules.MaskBits = refl
-fault_found rules.StandardCode = refl
-fault_found rules.StandardMask = refl
-fault_found rules.StrayBit = refl
-fault_found rules.PoolController = refl
-fault_found rules.PoolPayload = refl
-fault_found rules.PoolPadding = refl
 
 pub row_found : (what : ℕ) → what < 11 → piece what (joined rows) ≡ ascii (get_or rows what "")
 unfolding piece_start leading

@@ -4,8 +4,6 @@ use Rattle.bench_words.specs.declared.reading.Trouble.{Trouble}
 use Rattle.bench_words.specs.declared.reading.Trouble.TheVariants.{LineTooLong, UnknownCommand, WordMissing, WordTooMany, NotANumber, NumberTooLarge, NotAnIdentifier, IdentifierTooLong, NotHexDigits, OddDigits, NotOneByte, NotAMode, UnknownPoll, HandleTooLarge, SheetTooLong, MemoryTooLong, RoomTooLarge, ByteTooLarge, UnexpectedWord, UnknownKind, TooManyObjects}
 use Rattle.bench_script.specs.declared.name.Name.{Name}
 use Rattle.bench_script.specs.declared.name.Name.TheVariants as names
-use Rattle.can_faults.specs.declared.fault.Rule.{Rule}
-use Rattle.can_faults.specs.declared.fault.Rule.TheVariants as rules
 
 abbrev pub trouble_place : Trouble → ℕ
 trouble_place LineTooLong = 0
@@ -54,27 +52,3 @@ name_place names.Config = 19
 name_place names.Controllers = 20
 name_place names.Object = 21
 name_place names.Unknown = 22
-
-abbrev pub rule_place : Rule → ℕ
-rule_place rules.Accepted = 0
-rule_place rules.Mark = 1
-rule_place rules.Version = 2
-rule_place rules.Controllers = 3
-rule_place rules.Objects = 4
-rule_place rules.ZeroByte = 5
-rule_place rules.Size = 6
-rule_place rules.Controller = 7
-rule_place rules.Kind = 8
-rule_place rules.Payload = 9
-rule_place rules.SendingCode = 10
-rule_place rules.SendingMask = 11
-rule_place rules.Pool = 12
-rule_place rules.ReceivingPadding = 13
-rule_place rules.CodeBits = 14
-rule_place rules.MaskBits = 15
-rule_place rules.StandardCode = 16
-rule_place rules.StandardMask = 17
-rule_place rules.StrayBit = 18
-rule_place rules.PoolController = 19
-rule_place rules.PoolPayload = 20
-rule_place rules.PoolPadding = 21

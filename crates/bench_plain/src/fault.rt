@@ -6,7 +6,7 @@ use can_config::header::{
     CONTROLLERS_AT, HEADER_SIZE, OBJECTS_AT, VERSION_AT, ZERO_AT, version_of,
 };
 use can_config::record::{RECORD_SIZE, says_pool};
-use can_faults::fault::{Fault, Rule};
+use can_faults::fault::{Fault, OutlineRule, PoolRule, RecordRule};
 use can_faults::find::fault;
 use can_faults::stray::stray_bit;
 use core_layout::bytes::number_4;
@@ -62,17 +62,18 @@ fn code(bytes: &[u8], object: usize) -> u32 {
 }
 
 // The numbers of a rule of the header or of the whole, in the order of its text.
-fn outline_numbers(bytes: &[u8], rule: Rule) -> [u64; NUMBERS] {
+fn outline_numbers(bytes: &[u8], rule: OutlineRule) -> [u64; NUMBERS] {
     let objects = number_at(bytes, OBJECTS_AT);
     match rule {
-        Rule::Version => two(
+        OutlineRule::Mark => [0; NUMBERS],
+        OutlineRule::Version => two(
             number_at(bytes, VERSION_AT) as u64,
             number_at(bytes, VERSION_AT + 1) as u64,
         ),
-        Rule::Controllers => one(number_at(bytes, CONTROLLERS_AT) as u64),
-        Rule::Objects => one(objects as u64),
-        Rule::ZeroByte => one(number_at(bytes, ZERO_AT) as u64),
-        _ => {
+        OutlineRule::Controllers => one(number_at(bytes, CONTROLLERS_AT) as u64),
+        OutlineRule::Objects => one(objects as u64),
+        OutlineRule::ZeroByte => one(number_at(bytes, ZERO_AT) as u64),
+        OutlineRule::Size => {
             let expected = HEADER_SIZE + RECORD_SIZE * objects as usize;
             three(bytes.len() as u64, expected as u64, objects as u64)
         }
@@ -80,28 +81,41 @@ fn outline_numbers(bytes: &[u8], rule: Rule) -> [u64; NUMBERS] {
 }
 
 // The numbers of a rule of an object's record.
-fn record_numbers(bytes: &[u8], object: usize, rule: Rule) -> [u64; NUMBERS] {
+fn record_numbers(bytes: &[u8], rule: RecordRule, object: usize) -> [u64; NUMBERS] {
     let h = object as u64;
     let code = code(bytes, object);
     let mask = number(bytes, object, MASK);
     match rule {
-        Rule::Controller => three(
+        RecordRule::Controller => three(
             h,
             byte(bytes, object, CONTROLLER),
             number_at(bytes, CONTROLLERS_AT) as u64,
         ),
-        Rule::Kind => two(h, byte(bytes, object, KIND)),
-        Rule::Payload => two(h, byte(bytes, object, PAYLOAD)),
-        Rule::ReceivingPadding => two(h, byte(bytes, object, PADDING)),
-        Rule::Pool => two(h, byte(bytes, object, POOL)),
-        Rule::SendingCode | Rule::CodeBits | Rule::StandardCode => two(h, code as u64),
-        Rule::StrayBit => four(h, code as u64, stray_bit(code, mask) as u64, mask as u64),
-        _ => two(h, mask as u64),
+        RecordRule::Kind => two(h, byte(bytes, object, KIND)),
+        RecordRule::Payload => two(h, byte(bytes, object, PAYLOAD)),
+        RecordRule::ReceivingPadding => two(h, byte(bytes, object, PADDING)),
+        RecordRule::Pool => two(h, byte(bytes, object, POOL)),
+        RecordRule::SendingCode | RecordRule::CodeBits | RecordRule::StandardCode => {
+            two(h, code as u64)
+        }
+        RecordRule::SendingMask | RecordRule::MaskBits | RecordRule::StandardMask => {
+            two(h, mask as u64)
+        }
+        // The rule says that there is such a bit.
+        RecordRule::StrayBit => {
+            let bit = stray_bit(code, mask).unwrap_or(0);
+            four(h, code as u64, bit as u64, mask as u64)
+        }
     }
 }
 
-// The numbers of a rule of a pool: what an object has at byte k, and what the lowest one of its pool has there.
-fn pool_numbers(bytes: &[u8], object: usize, lowest: usize, k: usize) -> [u64; NUMBERS] {
+// The numbers of a rule of a pool: what an object has, and what the lowest one of its pool has there.
+fn pool_numbers(bytes: &[u8], rule: PoolRule, object: usize, lowest: usize) -> [u64; NUMBERS] {
+    let k = match rule {
+        PoolRule::Controller => CONTROLLER,
+        PoolRule::Payload => PAYLOAD,
+        PoolRule::Padding => PADDING,
+    };
     [
         object as u64,
         byte(bytes, object, k),
@@ -111,35 +125,22 @@ fn pool_numbers(bytes: &[u8], object: usize, lowest: usize, k: usize) -> [u64; N
     ]
 }
 
-// Whether a rule is one of the header or of the whole.
-fn is_of_outline(rule: Rule) -> bool {
-    match rule {
-        Rule::Mark
-        | Rule::Version
-        | Rule::Controllers
-        | Rule::Objects
-        | Rule::ZeroByte
-        | Rule::Size => true,
-        _ => false,
-    }
-}
-
 fn numbers(bytes: &[u8], fault: Fault) -> [u64; NUMBERS] {
-    let rule = fault.rule;
-    if is_of_outline(rule) {
-        return outline_numbers(bytes, rule);
-    }
-    match rule {
-        Rule::PoolController => pool_numbers(bytes, fault.object, fault.lowest, CONTROLLER),
-        Rule::PoolPayload => pool_numbers(bytes, fault.object, fault.lowest, PAYLOAD),
-        Rule::PoolPadding => pool_numbers(bytes, fault.object, fault.lowest, PADDING),
-        _ => record_numbers(bytes, fault.object, rule),
+    match fault {
+        Fault::Outline(rule) => outline_numbers(bytes, rule),
+        Fault::Record { rule, object } => record_numbers(bytes, rule, object),
+        Fault::Pool {
+            rule,
+            object,
+            lowest,
+        } => pool_numbers(bytes, rule, object, lowest),
     }
 }
 
 // `object 1: payload 9, expected 8 or 64`
 pub fn told(out: &mut [u8], at: usize, bytes: &[u8]) -> usize {
-    let fault = fault(bytes);
-    let rule = fault.rule;
-    faults::fault(out, at, rule, numbers(bytes, fault))
+    match fault(bytes) {
+        Ok(()) => faults::no_fault(out, at),
+        Err(fault) => faults::fault(out, at, fault, numbers(bytes, fault)),
+    }
 }

@@ -10,13 +10,15 @@ use lib.Dec.{eqb, ltb, leb}
 use borrow.Author.Tests.{leb-true, eqb-true}
 use Rattle.rules.specs.Repeat.{all_below}
 use Rattle.rules.specs.Core.{Owner, unused_owner, owner_valid, owner_unused, owner_place_valid, pool_valid, counts_valid}
-use Rattle.rules.specs.Configuration.{Configuration, header_size, version_of, settings_place_valid, settings_agreed, object_record, controllers_byte, objects_byte, configuration_of, header_valid, size_valid, kind_valid, accepted_bytes}
+use Rattle.rules.specs.Configuration.{Configuration, header_size, version_of, settings_place_valid, settings_agreed, controllers_byte, objects_byte, configuration_of, header_valid, size_valid, kind_valid, accepted_bytes}
 use Rattle.rules.specs.Can.{Settings, can_format, settings_valid, settings_unused, unused_settings}
 use Rattle.rules.specs.Chip.{chip}
 use Rattle.laws.proofs.Tests.{left, right, and_false}
 use Rattle.laws.proofs.Repeat.{get_or-list_below}
 use Rattle.core_validity.proofs.Laws.{and_pairs, all_below-and}
-use Rattle.can_config.specs.Reading.{record_valid, owner_said, settings_said, records_say, pools_judged}
+use Rattle.can_config.specs.declared.setup.Setup.{Setup}
+use Rattle.can_config.specs.View.{view_setup}
+use Rattle.can_config.specs.Reading.{records_valid, owner_said, settings_said, records_say, Records_said, pools_judged, Configuration_said}
 use Rattle.can_config.proofs.Laws.{all_in_use, filled}
 
 -- an unused place is at rest
@@ -77,10 +79,7 @@ module _ (bytes : List ℕ) where
   abbrev pub outline : ℕ → ℕ → Bool
   outline k n = header_valid chip can_format bytes && eqb (length bytes) (header_size + can_format.record_size * n) && counts_valid chip k n
 
-  abbrev pub records : ℕ → ℕ → ℕ → Bool
-  records v k n = all_below n (λ h. record_valid v h k (object_record chip can_format bytes h))
-
-  pub judged : (outline (controllers_byte bytes) (objects_byte bytes) && (records version (controllers_byte bytes) (objects_byte bytes) && pools_judged said)) ≡ accepted_bytes chip can_format bytes
+  pub judged : (outline (controllers_byte bytes) (objects_byte bytes) && (records_valid bytes version (controllers_byte bytes) (objects_byte bytes) && pools_judged said)) ≡ accepted_bytes chip can_format bytes
   unfolding accepted_bytes configuration_of
   judged =
       let k = controllers_byte bytes in
@@ -88,7 +87,7 @@ module _ (bytes : List ℕ) where
       let kinds = kind_valid chip can_format bytes in
       arranged (header_valid chip can_format bytes && size_valid chip can_format bytes) (counts_valid chip k n) (all_below n kinds)
       (all_below chip.objects (owner_place_valid k n said.owners)) (all_below n (pool_valid chip.objects said.owners))
-      (all_below chip.objects (settings_place_valid can_format n said.owners said.settings)) (settings_agreed can_format n said.owners said.settings) (records version k n)
+      (all_below chip.objects (settings_place_valid can_format n said.owners said.settings)) (settings_agreed can_format n said.owners said.settings) (records_valid bytes version k n)
       (λ counts.
       let fits = leb-true n chip.objects (right (leb 1 k && leb k chip.controllers) (leb n chip.objects) counts) in
       sym (all_below-and n kinds (λ h. owner_good h && settings_good h))
@@ -100,9 +99,9 @@ module _ (bytes : List ℕ) where
     unfolding configuration_of
     said_by = rw (versions, controllers, objects)
 
-    pub judged_by : {front : Bool} → front ≡ outline k n → (front && (records v k n && pools_judged (records_say bytes v k n))) ≡ accepted_bytes chip can_format bytes
+    judged_by : {front : Bool} → front ≡ outline k n → (front && (records_valid bytes v k n && pools_judged (records_say bytes v k n))) ≡ accepted_bytes chip can_format bytes
     judged_by {front} e =
-        ap (λ (c : Configuration can_format). front && (records v k n && pools_judged c)) said_by ∙ rw (e, versions, controllers, objects) judged
+        ap (λ (c : Configuration can_format). front && (records_valid bytes v k n && pools_judged c)) said_by ∙ rw (e, versions, controllers, objects) judged
 
   -- where the outline is good, there is a place for each object and the bytes hold each record
   pub outline_holds : (k n : ℕ) {front : Bool} → front ≡ outline k n → front ≡ true → (n ≤ chip.objects) × (header_size + can_format.record_size * n ≤ length bytes)
@@ -113,3 +112,22 @@ module _ (bytes : List ℕ) where
       let whole = eqb-true (length bytes) size (right (header_valid chip can_format bytes) (eqb (length bytes) size) (left front (counts_valid chip k n) e)) in
       let fits = right (leb 1 k && leb k chip.controllers) (leb n chip.objects) (right front (counts_valid chip k n) e) in
       (leb-true n chip.objects fits, omega arith)
+
+  -- what each test of the reader says of the whole, by counts that were read from the bytes
+  module _ {k n : ℕ} (controllers : k ≡ controllers_byte bytes) (objects : n ≡ objects_byte bytes) {front : Bool} (is : front ≡ outline k n) where
+    pub outline_refused : front ≡ false → accepted_bytes chip can_format bytes ≡ false
+    outline_refused refused = sym (rw refused at (judged_by {v = version} refl controllers objects is))
+
+    module _ (holds : front ≡ true) {v : ℕ} (versions : v ≡ version) where
+      pub records_refused : records_valid bytes v k n ≡ false → accepted_bytes chip can_format bytes ≡ false
+      records_refused invalid = sym (rw (holds, invalid) at (judged_by versions controllers objects is))
+
+      module _ {s : Setup} (read : Records_said bytes v k n s) where
+        pub pools_left : accepted_bytes chip can_format bytes ≡ pools_judged (view_setup s)
+        pools_left = sym (rw (holds, read.valid) at (judged_by versions controllers objects is)) ∙ ap pools_judged (sym read.setup)
+
+        pub all_said : pools_judged (view_setup s) ≡ true → Configuration_said bytes (record { version = v; setup = s })
+        all_said agree = record { accepted = pools_left ∙ agree; version_read = versions; setup = read.setup ∙ said_by versions controllers objects }
+
+-- what says that the bytes are not accepted
+pub ruleset refusals = (outline_refused, records_refused, pools_left)

@@ -1,44 +1,34 @@
 -- Laws about equal runs of bytes, about tests of all places, and about lists that are filled place by place.
-use Prim.Native.Nat.{ℕ, zero, suc, ◌+◌, ◌≤◌, ◌<◌}
+use Prim.Native.Nat.{ℕ, ◌+◌, ◌≤◌, ◌<◌}
 use native.Mathlib.Decide.{dec_lt, ℕ_discrete}
 use native.Mathlib.Omega.{arith}
-use mathlib.Core.Path.{◌≡◌, refl, sym, ap, ap₂, ◌∙◌}
-use mathlib.Core.Bool.{Bool, true, false, cond, ◌&&◌, and-true, and_assoc}
+use mathlib.Core.Path.{◌≡◌, refl, sym, ap₂, ◌∙◌}
+use mathlib.Core.Bool.{Bool, true, false, cond, ◌&&◌}
 use mathlib.Core.List.{List, [], ◌∷◌}
-use lib.ListN.{length, get_or, take, set, length-set}
+use mathlib.Core.Logic.{◌⊎◌, inl, inr}
+use lib.ListN.{length, get_or, set, length-set}
 use lib.Seq.{get_or-set_same, get_or-set_other, ext_get_or}
-use lib.Dec.{ltb, leb, eqb, leb-zero, leb-suc-zero, leb-suc-suc}
-use borrow.Author.Tests.{lt-ltb, le-ltb}
+use lib.Dec.{ltb, eqb}
+use borrow.Author.Tests.{lt-ltb, le-ltb, eq-eqb, eqb-true}
 use Rattle.rules.specs.Repeat.{all_below, list_below}
 use Rattle.rules.specs.Bytes.{same_bytes}
+use Rattle.std.specs.Cmp.Lexicographic.{pointwise}
+use Rattle.laws.proofs.Tests.{same_truth, decide, clash}
 use Rattle.laws.proofs.Repeat.{all_facts, facts_all, length-list_below, get_or-list_below}
 
--- Two tests are the same where each passes if the other does.
-same_truth : (a b : Bool) → (a ≡ true → b ≡ true) → (b ≡ true → a ≡ true) → a ≡ b
-same_truth true b to from = sym (to refl)
-same_truth false true to from = from refl
-same_truth false false to from = refl
-
--- Equal runs, byte by byte.
-all_below_first : (n : ℕ) (p : ℕ → Bool) → all_below (suc n) p ≡ (p 0 && all_below n (λ i. p (suc i)))
-unfolding all_below
-all_below_first zero p = sym (and-true (p 0))
-all_below_first (suc n) p =
-    ap (λ (b : Bool). b && p (suc n)) (all_below_first n p) ∙ and_assoc (p 0) (all_below n (λ i. p (suc i))) (p (suc n))
+-- What the library says of a slice's start is the rules' test of equal bytes.
+pub starts_same : (start l : List ℕ) → pointwise eqb start l ≡ same_bytes l start
+unfolding same_bytes
+starts_same [] [] = refl
+starts_same [] (y ∷ l) = refl
+starts_same (x ∷ start) [] = refl
+starts_same (x ∷ start) (y ∷ l) =
+    ap₂ ◌&&◌ (same_truth (eqb x y) (eqb y x) (λ t. eq-eqb y x (sym (eqb-true x y t))) (λ t. eq-eqb x y (sym (eqb-true y x t)))) (starts_same start l)
 
 pub and_left_comm : (a b c : Bool) → (a && (b && c)) ≡ (b && (a && c))
 and_left_comm true b c = refl
 and_left_comm false true c = refl
 and_left_comm false false c = refl
-
-pub starts_same : (l s : List ℕ) → (leb (length s) (length l) && all_below (length s) (λ i. eqb (get_or l i 0) (get_or s i 0))) ≡ same_bytes (take (length s) l) s
-unfolding all_below same_bytes
-starts_same l [] = rw (leb-zero (length l))
-starts_same [] (y ∷ s) = rw (leb-suc-zero (length s))
-starts_same (x ∷ l) (y ∷ s) =
-    ap₂ ◌&&◌ (leb-suc-suc (length s) (length l)) (all_below_first (length s) (λ i. eqb (get_or (x ∷ l) i 0) (get_or (y ∷ s) i 0)))
-    ∙ and_left_comm (leb (length s) (length l)) (eqb x y) (all_below (length s) (λ i. eqb (get_or l i 0) (get_or s i 0)))
-    ∙ ap (λ (b : Bool). eqb x y && b) (starts_same l s)
 
 -- Of m places the first n are tested, and the others pass anyway.
 pub all_in_use : (n m : ℕ) (p q : ℕ → Bool) → n ≤ m → ((i : ℕ) → i < m → q i ≡ cond (ltb i n) (p i) true) → all_below n p ≡ all_below m q
@@ -48,6 +38,14 @@ all_in_use n m p q fits e = same_truth (all_below n p) (all_below m q) (λ t. fa
     go : all_below n p ≡ true → (i : ℕ) → Dec (i < n) → cond (ltb i n) (p i) true ≡ true
     go t i (yes l) = rw (lt-ltb i n l) (all_facts n p t i l)
     go t i (no l) = rw (le-ltb i n (omega arith))
+
+-- A test that fails at one place fails of all.
+pub all_below_fails : (p : ℕ → Bool) (h n : ℕ) → h < n → p h ≡ false → all_below n p ≡ false
+all_below_fails p h n inside fails = go (decide (all_below n p))
+  where
+    go : (all_below n p ≡ true) ⊎ (all_below n p ≡ false) → all_below n p ≡ false
+    go (inl passes) = clash (all_facts n p passes h inside) fails
+    go (inr e) = e
 
 -- A list whose first places are filled, and one more of them.
 abbrev pub filled : {A : Type 0} → (ℕ → A) → A → ℕ → ℕ → A

@@ -1,5 +1,6 @@
 -- Laws that proofs of this crate cite.
 pub mod Laws
 mod Codes
-pub mod Sizes
+mod Judged
 pub mod Accepted
+pub mod Answered

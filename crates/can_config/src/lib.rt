@@ -1,7 +1,6 @@
 // The configuration reader: from bytes to the configuration that they say.
 #![tactic(auto)]
 
-pub mod bytes;
 pub mod header;
 pub mod outline;
 mod pools;

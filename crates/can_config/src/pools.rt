@@ -7,21 +7,9 @@ ghost use Rattle.can_config.specs.Reading.{pools_judged};
 use crate::setup::Setup;
 
 // Whether each pool is valid and its members agree in controller, payload and padding.
-pub fn pools_agree(setup: Setup) -> bool
-    requires { setup.object_count ≤ (rules.chip).objects }
-    ensures { result ≡ pools_judged (view_setup setup) }
+pub fn pools_agree(setup: &Setup) -> bool
+    requires { setup.now.object_count ≤ (rules.chip).objects }
+    ensures { result ≡ pools_judged (view_setup setup.now) }
 {
-    let owners = setup.owners;
-    let receivings = setup.receivings;
-    let pools = setup.pools;
-    let payloads = setup.payloads;
-    let paddings = setup.paddings;
-    can_state::agreement::pools_agree(
-        &owners,
-        &receivings,
-        &pools,
-        &payloads,
-        &paddings,
-        setup.object_count,
-    )
+    can_state::agreement::pools_agree(&setup.owners, &setup.settings, setup.object_count)
 }

@@ -1,16 +1,19 @@
 // The rules of a configuration's bytes, and what is found broken.
 
-// A rule of the configuration's bytes; Accepted where none is broken.
+// A rule of the header, byte by byte, or of the total.
 #[derive(Clone, Copy)]
-pub enum Rule {
-    Accepted,
-    // The header, byte by byte, and the total.
+pub enum OutlineRule {
     Mark,
     Version,
     Controllers,
     Objects,
     ZeroByte,
     Size,
+}
+
+// A rule of one object's record.
+#[derive(Clone, Copy)]
+pub enum RecordRule {
     // Any record.
     Controller,
     Kind,
@@ -26,17 +29,27 @@ pub enum Rule {
     StandardCode,
     StandardMask,
     StrayBit,
-    // A sending object beside the lowest one of its pool.
-    PoolController,
-    PoolPayload,
-    PoolPadding,
 }
 
-// The first rule that is broken, and by which object's record; 0 where it is a rule of the header or of the whole. Where an object differs
-// from the lowest one of its pool, which that is; else 0.
+// A rule of a sending object beside the lowest one of its pool.
 #[derive(Clone, Copy)]
-pub struct Fault {
-    pub rule: Rule,
-    pub object: usize,
-    pub lowest: usize,
+pub enum PoolRule {
+    Controller,
+    Payload,
+    Padding,
+}
+
+// The first rule that is broken: of the outline, by an object's record, or by an object that differs from the lowest one of its pool.
+#[derive(Clone, Copy)]
+pub enum Fault {
+    Outline(OutlineRule),
+    Record {
+        rule: RecordRule,
+        object: usize,
+    },
+    Pool {
+        rule: PoolRule,
+        object: usize,
+        lowest: usize,
+    },
 }

@@ -7,5 +7,4 @@ pub mod outline;
 pub mod pools;
 pub mod record;
 pub mod records;
-pub mod rule;
 pub mod stray;

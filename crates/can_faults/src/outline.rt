@@ -2,38 +2,38 @@
 ghost use Rattle.std.specs.Prelude.{◌≡◌};
 ghost use Rattle.can_faults.specs.Fault.{first_broken, outline_rules};
 
-use crate::fault::Rule;
+use crate::fault::OutlineRule;
 use can_chip::{CONTROLLERS, OBJECTS};
-use can_config::bytes::starts_with;
 use can_config::header::{
-    CONTROLLERS_AT, HEADER_SIZE, OBJECTS_AT, ZERO_AT, known_version, version_of,
+    CONTROLLERS_AT, HEADER_SIZE, OBJECTS_AT, ZERO_AT, known_version, mark_matches, version_of,
 };
 use can_config::record::RECORD_SIZE;
 use core_places::at::number_at;
 
 // The first of these rules that is broken.
-pub fn outline_rule(bytes: &[u8]) -> Rule
+#[tactic(auto, unfolding(crate::specs::Fault::first_broken, crate::specs::Fault::outline_rules))]
+pub fn outline_rule(bytes: &[u8]) -> Result<(), OutlineRule>
     ensures { result ≡ first_broken (outline_rules bytes.now) }
 {
-    if !starts_with(bytes, b"CHB") {
-        return Rule::Mark;
+    if !mark_matches(bytes) {
+        return Err(OutlineRule::Mark);
     }
     if !known_version(version_of(bytes)) {
-        return Rule::Version;
+        return Err(OutlineRule::Version);
     }
     let controller_count = number_at(bytes, CONTROLLERS_AT) as usize;
     if !((1 <= controller_count) & (controller_count <= CONTROLLERS)) {
-        return Rule::Controllers;
+        return Err(OutlineRule::Controllers);
     }
     let object_count = number_at(bytes, OBJECTS_AT) as usize;
     if OBJECTS < object_count {
-        return Rule::Objects;
+        return Err(OutlineRule::Objects);
     }
     if number_at(bytes, ZERO_AT) != 0 {
-        return Rule::ZeroByte;
+        return Err(OutlineRule::ZeroByte);
     }
     if bytes.len() != HEADER_SIZE + RECORD_SIZE * object_count {
-        return Rule::Size;
+        return Err(OutlineRule::Size);
     }
-    Rule::Accepted
+    Ok(())
 }

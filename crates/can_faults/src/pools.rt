@@ -4,8 +4,7 @@ ghost use Rattle.rules.specs.Chip as rules;
 ghost use Rattle.can_config.specs.View.{view_setup};
 ghost use Rattle.can_faults.specs.Fault.{pool_rule, pools_fault};
 
-use crate::fault::{Fault, Rule};
-use crate::rule::is_accepted;
+use crate::fault::{Fault, PoolRule};
 use can_config::setup::Setup;
 use core_places::at::{flag_at, number_at};
 use core_validity::pools::lowest_member;
@@ -21,50 +20,38 @@ fn same(numbers: &[u8], h: usize, other: usize) -> bool
 }
 
 // The first rule that object h breaks beside another of its pool.
-fn pool_rule(setup: Setup, h: usize, other: usize) -> Rule
+#[tactic(auto, using(crate::proofs::Seen::rule_seen, can_config::proofs::Sizes::sizes))]
+fn pool_rule(setup: Setup, h: usize, other: usize) -> Result<(), PoolRule>
     ensures { result ≡ pool_rule (view_setup setup) h other }
 {
-    let owners = setup.owners;
-    let receivings = setup.receivings;
-    let payloads = setup.payloads;
-    let paddings = setup.paddings;
-    if flag_at(&receivings, h) {
-        return Rule::Accepted;
+    if flag_at(&setup.receivings, h) {
+        return Ok(());
     }
-    if !same(&owners, h, other) {
-        return Rule::PoolController;
+    if !same(&setup.owners, h, other) {
+        return Err(PoolRule::Controller);
     }
-    if !same(&payloads, h, other) {
-        return Rule::PoolPayload;
+    if !same(&setup.payloads, h, other) {
+        return Err(PoolRule::Payload);
     }
-    if !same(&paddings, h, other) {
-        return Rule::PoolPadding;
+    if !same(&setup.paddings, h, other) {
+        return Err(PoolRule::Padding);
     }
-    Rule::Accepted
+    Ok(())
 }
 
 // The first object that differs from the lowest one of its pool, and the rule that it breaks.
-pub fn pools_fault(setup: Setup) -> Fault
+pub fn pools_fault(setup: Setup) -> Result<(), Fault>
     requires { setup.object_count ≤ (rules.chip).objects }
     ensures { result ≡ pools_fault (view_setup setup) }
 {
-    let receivings = setup.receivings;
-    let pools = setup.pools;
     let mut table = [POOLS; POOLS];
-    for h in 0..setup.object_count {
-        let lowest = lowest_member(&receivings, &pools, &mut table, h);
-        let rule = pool_rule(setup, h, lowest);
-        if !is_accepted(rule) {
-            return Fault {
-                rule: rule,
-                object: h,
-                lowest: lowest,
-            };
-        }
+    for object in 0..setup.object_count {
+        let lowest = lowest_member(&setup.receivings, &setup.pools, &mut table, object);
+        pool_rule(setup, object, lowest).map_err(|rule| Fault::Pool {
+            rule,
+            object,
+            lowest,
+        })?;
     }
-    Fault {
-        rule: Rule::Accepted,
-        object: 0,
-        lowest: 0,
-    }
+    Ok(())
 }

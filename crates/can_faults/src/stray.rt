@@ -14,16 +14,15 @@ fn stray_at(code: u32, mask: u32, k: u32) -> bool
     ((code >> k) % 2 == 1) & !((mask >> k) % 2 == 1)
 }
 
-// The first stray one of bits 28 to 0; 0 where none is.
-pub fn stray_bit(code: u32, mask: u32) -> u32
+// The first stray one of bits 28 to 0.
+#[tactic(auto, using(crate::proofs::Bits::highest_none, crate::proofs::Bits::highest_step))]
+pub fn stray_bit(code: u32, mask: u32) -> Option<u32>
     ensures { result ≡ stray_bit code mask }
 {
-    let mut left = IDENTIFIER_BITS;
-    while 0 < left {
-        left -= 1;
-        if stray_at(code, mask, left) {
-            return left;
+    for k in (0..IDENTIFIER_BITS).rev() {
+        if stray_at(code, mask, k) {
+            return Some(k);
         }
     }
-    0
+    None
 }

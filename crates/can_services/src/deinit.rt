@@ -24,14 +24,14 @@ pub fn deinit(state: State, ram: &mut [u8], sheet: &mut [u32]) -> Called<()>
     ensures { Performed (rules.deinit chip can_format (view state) (length sheet.old) ram.old)
         (verdict_reason result.reply) no_answer (view result.state) result.notifications ram.new sheet.old sheet.new }
 {
-    let modes = state.modes;
-    let started = some_started(&modes, state.controller_count);
+    let started = some_started(&state.core);
     let gate = full_gate(valid(state), sheet.len(), SHEET_SIZE, ram.len(), RAM_SIZE);
-    match gate.and(judge_deinit(state.initialised, started)) {
+    match gate.and(judge_deinit(state.core.initialised, started)) {
         Ok(()) => {
             clear(ram);
+            let rest = initial_state();
             Called {
-                state: initial_state(),
+                state: rest,
                 reply: Ok(()),
                 notifications: 0,
             }

@@ -1,4 +1,4 @@
-// The services of the driver but Write: the gate with this chip's validity and sizes, then the core's service over the state's arrays.
+// The services of the driver but Write: the gate with this chip's validity and sizes, then the core's service over the state's core.
 // Init and DeInit replace the whole state.
 #![tactic(auto)]
 

@@ -23,26 +23,7 @@ fn ask(question: Question, state: State, sheet: &mut [u32], controller: u32) -> 
         (verdict_reason result.reply) (question_answer question result.reply) (view result.state) result.notifications [] sheet.old sheet.new }
 {
     let gate = sheet_gate(valid(state), sheet.len(), SHEET_SIZE);
-    let modes = state.modes;
-    let requests = state.requests;
-    let marks = state.marks;
-    let recoverings = state.recoverings;
-    let tx_errors = state.tx_errors;
-    let rx_errors = state.rx_errors;
-    let reported = ask_controller(
-        gate,
-        question,
-        state.initialised,
-        state.controller_count,
-        &modes,
-        &requests,
-        &marks,
-        &recoverings,
-        &tx_errors,
-        &rx_errors,
-        sheet,
-        controller,
-    );
+    let reported = ask_controller(gate, question, &state.core, sheet, controller);
     Called {
         state,
         reply: reported.reply,

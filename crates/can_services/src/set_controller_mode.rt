@@ -24,25 +24,15 @@ pub fn set_controller_mode(
     ensures { Performed (rules.set_controller_mode chip can_format (view state) (length sheet.old) [] controller mode)
         (verdict_reason result.reply) no_answer (view result.state) result.notifications [] sheet.old sheet.new }
 {
+    let mut next = state;
     let gate = sheet_gate(valid(state), sheet.len(), SHEET_SIZE);
-    let mut modes = state.modes;
-    let mut requests = state.requests;
-    let mut marks = state.marks;
     let reported = core_services::set_controller_mode::set_controller_mode(
         gate,
-        state.initialised,
-        state.controller_count,
-        &mut modes,
-        &mut requests,
-        &mut marks,
+        &mut next.core,
         sheet,
         controller,
         mode,
     );
-    let mut next = state;
-    next.modes = modes;
-    next.requests = requests;
-    next.marks = marks;
     Called {
         state: next,
         reply: reported.reply,

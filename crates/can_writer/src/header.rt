@@ -16,9 +16,10 @@ fn counted(
     requires { (controller_count < 2 ^ 8) × (object_count < 2 ^ 8) }
     ensures { result ≡ big_endian 2 version ++ (controller_count ∷ object_count ∷ 0 ∷ []) }
 {
+    let version = version.to_be_bytes();
     [
-        ((version >> 8) % 256) as u8,
-        (version % 256) as u8,
+        version[2],
+        version[3],
         controller_count as u8,
         object_count as u8,
         0,

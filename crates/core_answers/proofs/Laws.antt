@@ -44,6 +44,11 @@ pub behind : {T : Type 0} (first : Result (Unit {0}) Rejection) (second : Result
     → verdict_reason first ≡ a → verdict_reason second ≡ b → verdict_reason both ≡ (a then b)
 behind first second e f g = ap verdict_reason e ∙ and_reason first second ∙ ap₂ (λ (a b : ℕ). a then b) f g
 
+-- where both pass, the second is what they come to
+pub second_passed : {T : Type 0} (first : Result (Unit {0}) Rejection) (second : Result T Rejection) {x : T} → result_and first second ≡ Ok x → second ≡ Ok x
+second_passed (Ok u) second e = e
+second_passed (Err r) second e = cc
+
 -- nothing is written
 pub noted_none : (sheet : List ℕ) → Noted [] sheet sheet 0
 noted_none sheet = record { count_is = refl; sheet_is = sym (sheet_none sheet) }

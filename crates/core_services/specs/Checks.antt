@@ -1,8 +1,7 @@
 -- The checks of the services on what they read of the core, one place at a time. Each list is the rules' own, once the places are read, and
 -- the contract of each service says so.
-use Rattle.std.specs.Prelude.{ℕ, Bool, not, ◌||◌, List, [], ◌∷◌, get_or, eqb}
-use Rattle.rules.specs.Repeat.{all_below}
-use Rattle.rules.specs.Mode.{UNINIT, STARTED, permitted}
+use Rattle.std.specs.Prelude.{ℕ, Bool, not, ◌||◌, List, [], ◌∷◌}
+use Rattle.rules.specs.Mode.{permitted}
 use Rattle.rules.specs.Reason.{Check, ◌if◌, CAN_E_PARAM_HANDLE, CAN_E_PARAM_CONTROLLER, CAN_E_UNINIT, CAN_E_TRANSITION, NOT_STARTED, OBJECT_BUSY}
 use Rattle.rules.specs.Core.{Controller, Mailbox, is_started}
 
@@ -13,10 +12,6 @@ in_use_checks initialised in_use = CAN_E_UNINIT if not initialised ∷ CAN_E_PAR
 -- "6 (unknown mode or forbidden move)"
 abbrev pub move_checks : Controller → ℕ → List Check
 move_checks k asked = CAN_E_TRANSITION if not (permitted k.mode asked) ∷ []
-
--- one of the first count controllers is STARTED, by their modes
-abbrev pub any_started : List ℕ → ℕ → Bool
-any_started modes count = not (all_below count (λ c. not (eqb (get_or modes c UNINIT) STARTED)))
 
 -- "DeInit: 6 if not initialised or a controller is STARTED."
 abbrev pub deinit_checks : Bool → Bool → List Check

@@ -1,5 +1,4 @@
 -- What the contracts of this crate say beyond the rules.
 pub mod Checks
-pub mod Pool
 pub mod Room
 pub mod WriteTaken

@@ -1,10 +1,7 @@
 // What is asked of a controller: its mode by GetControllerMode, its error state and its error counts by services of their own.
 ghost use Rattle.std.specs.Prelude.{◌≡◌, List, ℕ};
-ghost use Rattle.rules.specs.Core.{Core};
 ghost use Rattle.rules.specs.Services as rules;
-ghost use Rattle.core_places.specs.View.{view_controller, view_errors};
-ghost use Rattle.core_places.specs.Arrays.{Alike, controllers_in, errors_in};
-ghost use Rattle.core_places.specs.Held.{Controlled};
+ghost use Rattle.core_places.specs.View.{view_controller, view_errors, view_core};
 ghost use Rattle.core_answers.specs.Answer.{verdict_reason};
 ghost use Rattle.core_answers.specs.Reply.{question_of, question_answer};
 ghost use Rattle.core_answers.specs.Performed.{Performed};
@@ -19,8 +16,8 @@ use crate::report::report;
 use core_answers::question::Question;
 use core_answers::reported::Reported;
 use core_answers::verdict::Verdict;
-use core_places::at::{controller_at, errors_at};
 use core_places::controller::Controller;
+use core_places::core_state::Core;
 use core_places::errors::{Errors, capped, error_state};
 
 // The number of the service that asks.
@@ -48,32 +45,23 @@ fn answer_to(question: Question, k: Controller, e: Errors) -> u8
 }
 
 // Answers the question of a controller in use.
-pub fn ask_controller(
+pub fn ask_controller<const C: usize, const O: usize>(
     gate: Verdict,
     question: Question,
-    initialised: bool,
-    count: usize,
-    modes: &[u8],
-    requests: &[u8],
-    marks: &[bool],
-    recoverings: &[bool],
-    tx_errors: &[u32],
-    rx_errors: &[u32],
+    core: &Core<C, O>,
     sheet: &mut [u32],
     controller: u32,
 ) -> Reported<u8>
-    requires { Alike modes.now requests.now marks.now × Alike recoverings.now tx_errors.now rx_errors.now × Room (verdict_reason gate) sheet.old }
-    ensures { (core : Core) (ram : List ℕ)
-        → Controlled core initialised count (controllers_in modes.now requests.now marks.now)
-        → core.errors ≡ errors_in recoverings.now tx_errors.now rx_errors.now
-        → Performed (rules.ask_controller (verdict_reason gate) (question_of question) core ram controller)
-        (verdict_reason result.reply) (question_answer question result.reply) core
+    requires { Room (verdict_reason gate) sheet.old }
+    ensures { (ram : List ℕ)
+        → Performed (rules.ask_controller (verdict_reason gate) (question_of question) (view_core core.now) ram controller)
+        (verdict_reason result.reply) (question_answer question result.reply) (view_core core.now)
         result.notifications ram sheet.old sheet.new }
 {
     let c = controller as usize;
-    let k = controller_at(modes, requests, marks, c);
-    let e = errors_at(recoverings, tx_errors, rx_errors, c);
-    match gate.and(judge_in_use(initialised, c, count)) {
+    let k = core.controllers.at(c);
+    let e = core.errors.at(c);
+    match gate.and(judge_in_use(core.initialised, c, core.controller_count)) {
         Ok(()) => Reported {
             reply: Ok(answer_to(question, k, e)),
             notifications: 0,

@@ -1,27 +1,32 @@
 // What DeInit asks of the core.
 ghost use Rattle.std.specs.Prelude.{◌≡◌};
 ghost use Rattle.rules.specs.Reason.{first_reason};
+ghost use Rattle.rules.specs.Services as rules;
 ghost use Rattle.core_answers.specs.Answer.{verdict_reason};
-ghost use Rattle.core_services.specs.Checks.{any_started, deinit_checks};
+ghost use Rattle.core_places.specs.View.{view_core};
+ghost use Rattle.core_services.specs.Checks.{deinit_checks};
 
 use core_answers::rejection::Rejection;
 use core_answers::verdict::Verdict;
 use core_places::controller::STARTED;
+use core_places::core_state::Core;
 use core_places::range::limited;
 
-// Whether one of the first count controllers, of which these are the modes, is STARTED.
-pub fn some_started(modes: &[u8], count: usize) -> bool
-    ensures { result ≡ any_started modes.now count }
+// Whether a controller in use is STARTED.
+#[tactic(auto, unfolding(rules::specs::Repeat::all_below))]
+pub fn some_started<const C: usize, const O: usize>(core: &Core<C, O>) -> bool
+    ensures { result ≡ rules.some_started (view_core core.now) }
 {
-    let end = limited(count, modes.len());
+    let end = limited(core.controller_count, core.controllers.len());
     let mut none = true;
     for c in 0..end {
-        none = none & (modes[c] != STARTED);
+        none = none & (core.controllers.read(c).mode != STARTED);
     }
     !none
 }
 
 // Reason 6: the driver is initialised, and no controller is STARTED.
+#[tactic(auto, unfolding(rules::specs::Reason::first_reason))]
 pub fn judge_deinit(initialised: bool, started: bool) -> Verdict
     ensures { verdict_reason result ≡ first_reason (deinit_checks initialised started) }
 {

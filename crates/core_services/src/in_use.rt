@@ -8,6 +8,7 @@ use core_answers::rejection::Rejection;
 use core_answers::verdict::Verdict;
 
 // Reasons 5 and 4: the driver is initialised, and controller c is one of the count in use.
+#[tactic(auto, unfolding(rules::specs::Reason::first_reason))]
 pub fn judge_in_use(initialised: bool, c: usize, count: usize) -> Verdict
     ensures { verdict_reason result ≡ first_reason (in_use_checks initialised (ltb c count)) }
 {

@@ -1,13 +1,10 @@
 // SetControllerMode: asks a controller for a mode, which it takes at the next mode poll.
-ghost use Rattle.std.specs.Prelude.{◌≡◌, true, List, ◌++◌, ℕ, ◌≤◌, ltb, length};
+ghost use Rattle.std.specs.Prelude.{◌≡◌, true, List, ◌++◌, ℕ, ◌≤◌, ltb};
 ghost use Rattle.rules.specs.Mode as modes;
 ghost use Rattle.rules.specs.Reason.{first_reason};
-ghost use Rattle.rules.specs.Core.{Core, with_controllers};
 ghost use Rattle.rules.specs.Outcome.{no_answer};
 ghost use Rattle.rules.specs.Services as rules;
-ghost use Rattle.core_places.specs.View.{view_controller};
-ghost use Rattle.core_places.specs.Arrays.{Alike, controllers_in};
-ghost use Rattle.core_places.specs.Held.{Controlled};
+ghost use Rattle.core_places.specs.View.{view_controller, view_core};
 ghost use Rattle.core_answers.specs.Answer.{verdict_reason};
 ghost use Rattle.core_answers.specs.Performed.{Performed};
 ghost use Rattle.core_services.specs.Checks.{in_use_checks, move_checks};
@@ -19,11 +16,11 @@ use crate::report::report;
 use core_answers::rejection::Rejection;
 use core_answers::reported::Reported;
 use core_answers::verdict::Verdict;
-use core_places::at::controller_at;
 use core_places::controller::{Controller, permitted};
-use core_places::store::set_controller;
+use core_places::core_state::Core;
 
 // Reason 6: a controller in this mode may be asked for that one, which can be any number.
+#[tactic(auto, unfolding(rules::specs::Reason::first_reason))]
 pub fn judge_move(k: Controller, asked: u32) -> Verdict
     ensures { verdict_reason result ≡ first_reason (move_checks (view_controller k) asked) }
 {
@@ -62,30 +59,24 @@ pub fn request_mode(k: Controller, asked: u32) -> Controller
 }
 
 // Has a controller in use wait for a mode that is permitted from its present one.
-pub fn set_controller_mode(
+pub fn set_controller_mode<const C: usize, const O: usize>(
     gate: Verdict,
-    initialised: bool,
-    count: usize,
-    modes: &mut [u8],
-    requests: &mut [u8],
-    marks: &mut [bool],
+    core: &mut Core<C, O>,
     sheet: &mut [u32],
     controller: u32,
     asked: u32,
 ) -> Reported<()>
-    requires { Alike modes.old requests.old marks.old × (verdict_reason gate ≡ 0 → count ≤ length modes.old) × Room (verdict_reason gate) sheet.old }
-    ensures { (core : Core) (ram : List ℕ)
-        → Controlled core initialised count (controllers_in modes.old requests.old marks.old)
-        → Performed (rules.set_controller_mode (verdict_reason gate) core ram controller asked)
-        (verdict_reason result.reply) no_answer
-        (with_controllers core (controllers_in modes.new requests.new marks.new))
+    requires { (verdict_reason gate ≡ 0 → core.old.controller_count ≤ C) × Room (verdict_reason gate) sheet.old }
+    ensures { (ram : List ℕ)
+        → Performed (rules.set_controller_mode (verdict_reason gate) (view_core core.old) ram controller asked)
+        (verdict_reason result.reply) no_answer (view_core core.new)
         result.notifications ram sheet.old sheet.new }
 {
     let c = controller as usize;
-    let k = controller_at(modes, requests, marks, c);
-    match gate.and(judge_set_mode(initialised, c, count, k, asked)) {
+    let k = core.controllers.at(c);
+    match gate.and(judge_set_mode(core.initialised, c, core.controller_count, k, asked)) {
         Ok(()) => {
-            set_controller(modes, requests, marks, c, request_mode(k, asked));
+            core.controllers.set(c, request_mode(k, asked));
             Reported {
                 reply: Ok(()),
                 notifications: 0,

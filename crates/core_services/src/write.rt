@@ -1,12 +1,9 @@
 // Write, but for the frame: takes it into a member of a pool of sending objects, where it waits to be sent.
-ghost use Rattle.std.specs.Prelude.{◌≡◌, ◌≤◌, ◌^◌, length};
+ghost use Rattle.std.specs.Prelude.{◌≡◌, ◌≤◌, ◌^◌};
 ghost use Rattle.rules.specs.Reason.{first_reason, ◌then◌};
-ghost use Rattle.rules.specs.Core.{Core};
+ghost use Rattle.rules.specs.Core.{free_member};
 ghost use Rattle.rules.specs.Services as rules;
-ghost use Rattle.core_places.specs.View.{view_controller, view_mailbox};
-ghost use Rattle.core_places.specs.Arrays.{Alike, controllers_in, mailboxes_in};
-ghost use Rattle.core_places.specs.Held.{Held};
-ghost use Rattle.core_places.specs.Pools.{Pooled};
+ghost use Rattle.core_places.specs.View.{view_controller, view_mailbox, view_core};
 ghost use Rattle.core_answers.specs.Answer.{verdict_reason};
 ghost use Rattle.core_answers.specs.Reply.{write_answer};
 ghost use Rattle.core_services.specs.Checks.{sending_checks, free_checks};
@@ -16,12 +13,12 @@ use crate::pool::{free_member, names_pool};
 use core_answers::rejection::Rejection;
 use core_answers::reply::WriteReply;
 use core_answers::verdict::Verdict;
-use core_places::at::{controller_at, mailbox_at, number_at};
 use core_places::controller::{Controller, STARTED};
+use core_places::core_state::Core;
 use core_places::mailbox::Mailbox;
-use core_places::store::set_mailbox;
 
 // Reasons 5 and 2: the driver is initialised, and the object names a pool.
+#[tactic(auto, unfolding(rules::specs::Reason::first_reason))]
 fn judge_sending(initialised: bool, named: bool) -> Verdict
     ensures { verdict_reason result ≡ first_reason (sending_checks initialised named) }
 {
@@ -43,6 +40,7 @@ fn is_occupied(m: Mailbox) -> bool
 }
 
 // Reasons 35 and 36: the controller is STARTED, and no frame waits in the mailbox.
+#[tactic(auto, unfolding(rules::specs::Reason::first_reason))]
 fn judge_free(k: Controller, m: Mailbox) -> Verdict
     ensures { verdict_reason result ≡ first_reason (free_checks (view_controller k) (view_mailbox m)) }
 {
@@ -84,86 +82,53 @@ pub fn written_mailbox() -> Mailbox
     }
 }
 
-// Has the lowest free member of the object's pool wait to be sent, where the frame is not refused and the pool can take it; behind the gate.
-fn take_open(
+// The same, of what is read of the core: object h is named, and this member would take the frame.
+fn judge_open<const C: usize, const O: usize>(
     frame: Verdict,
-    initialised: bool,
-    object_count: usize,
-    modes: &[u8],
-    requests: &[u8],
-    marks: &[bool],
-    owners: &[u8],
-    receivings: &[bool],
-    pools: &[u8],
-    pendings: &mut [bool],
-    dones: &mut [bool],
-    fulls: &mut [bool],
+    core: &Core<C, O>,
+    h: usize,
+    member: usize,
+) -> Verdict
+    requires { (core.now.object_count ≤ O) × (member ≡ free_member (view_core core.now) h) }
+    ensures { verdict_reason result ≡ rules.write_reason (view_core core.now) h (verdict_reason frame) }
+{
+    let owner = core.owners.at(h);
+    let k = core.controllers.at(owner.controller as usize);
+    let m = core.mailboxes.at(member);
+    judge_write(core.initialised, names_pool(core, h), k, m, frame)
+}
+
+// Has the lowest free member of the object's pool wait to be sent, where the frame is not refused and the pool can take it; behind the gate.
+#[tactic(auto, using(core_answers::proofs::Laws::reason_named))]
+fn take_open<const C: usize, const O: usize>(
+    frame: Verdict,
+    core: &mut Core<C, O>,
     object: u32,
 ) -> WriteReply
-    requires { Alike modes.now requests.now marks.now × Alike pools.now receivings.now pendings.old
-        × Alike pendings.old dones.old fulls.old × (object_count ≤ length pools.now) × (length pools.now ≤ 2 ^ 32) }
-    ensures { (core : Core)
-        → Held core initialised object_count owners.now receivings.now
-        (controllers_in modes.now requests.now marks.now)
-        (mailboxes_in pendings.old dones.old fulls.old)
-        → Pooled core.owners pools.now
-        → WriteTaken core object 0 (verdict_reason frame) (verdict_reason result) (write_answer result)
-        (mailboxes_in pendings.new dones.new fulls.new) }
+    requires { (core.old.object_count ≤ O) × (O ≤ 2 ^ 32) }
+    ensures { WriteTaken (view_core core.old) object 0 (verdict_reason frame) (verdict_reason result) (write_answer result)
+        (view_core core.new) }
 {
     let h = object as usize;
-    let owner = number_at(owners, h);
-    let pool = number_at(pools, h);
-    let k = controller_at(modes, requests, marks, owner as usize);
-    let named = names_pool(receivings, pools, object_count, h);
-    let member = free_member(receivings, pools, pendings, object_count, pool, h);
-    let m = mailbox_at(pendings, dones, fulls, member);
-    judge_write(initialised, named, k, m, frame)?;
-    set_mailbox(pendings, dones, fulls, member, written_mailbox());
+    let member = free_member(core, h);
+    judge_open(frame, core, h, member)?;
+    core.mailboxes.set(member, written_mailbox());
     Ok(member as u32)
 }
 
 // The same behind the gate's verdict: nothing is looked at where the gate refuses. The caller lays the frame down in the object that took it,
 // and reports a refusal.
-pub fn take_write(
+#[tactic(auto, using(core_answers::proofs::Laws::reason_named))]
+pub fn take_write<const C: usize, const O: usize>(
     gate: Verdict,
     frame: Verdict,
-    initialised: bool,
-    object_count: usize,
-    modes: &[u8],
-    requests: &[u8],
-    marks: &[bool],
-    owners: &[u8],
-    receivings: &[bool],
-    pools: &[u8],
-    pendings: &mut [bool],
-    dones: &mut [bool],
-    fulls: &mut [bool],
+    core: &mut Core<C, O>,
     object: u32,
 ) -> WriteReply
-    requires { Alike modes.now requests.now marks.now × Alike pools.now receivings.now pendings.old
-        × Alike pendings.old dones.old fulls.old × (length pools.now ≤ 2 ^ 32) × (verdict_reason gate ≡ 0 → object_count ≤ length pools.now) }
-    ensures { (core : Core)
-        → Held core initialised object_count owners.now receivings.now
-        (controllers_in modes.now requests.now marks.now)
-        (mailboxes_in pendings.old dones.old fulls.old)
-        → Pooled core.owners pools.now
-        → WriteTaken core object (verdict_reason gate) (verdict_reason frame) (verdict_reason result) (write_answer result)
-        (mailboxes_in pendings.new dones.new fulls.new) }
+    requires { (O ≤ 2 ^ 32) × (verdict_reason gate ≡ 0 → core.old.object_count ≤ O) }
+    ensures { WriteTaken (view_core core.old) object (verdict_reason gate) (verdict_reason frame) (verdict_reason result) (write_answer result)
+        (view_core core.new) }
 {
     gate?;
-    take_open(
-        frame,
-        initialised,
-        object_count,
-        modes,
-        requests,
-        marks,
-        owners,
-        receivings,
-        pools,
-        pendings,
-        dones,
-        fulls,
-        object,
-    )
+    take_open(frame, core, object)
 }

@@ -15,16 +15,16 @@ pub const RECEIVING: usize = 20;
 
 // Prints what the reader makes of the bytes.
 fn show(stdout: &impl Print, name: &[u8], bytes: &[u8]) {
-    let reading = can_config::read::read(bytes);
     text(stdout, name);
-    if reading.accepted {
-        text(stdout, b": accepted, controllers ");
-        number(stdout, reading.setup.controller_count as u64);
-        text(stdout, b", objects ");
-        number(stdout, reading.setup.object_count as u64);
-        text(stdout, b"\n");
-    } else {
-        text(stdout, b": bad\n");
+    match can_config::read::read(bytes) {
+        Some(reading) => {
+            text(stdout, b": accepted, controllers ");
+            number(stdout, reading.setup.controller_count as u64);
+            text(stdout, b", objects ");
+            number(stdout, reading.setup.object_count as u64);
+            text(stdout, b"\n");
+        }
+        None => text(stdout, b": bad\n"),
     }
 }
 

@@ -28,19 +28,18 @@ fn show_pool(stdout: &impl Print, setup: Setup, h: usize) {
 
 // Prints what the reader makes of the bytes: the version, and the pools of the three objects.
 fn show(stdout: &impl Print, name: &[u8], bytes: &[u8; 44]) {
-    let reading = can_config::read::read(bytes);
     text(stdout, name);
-    if reading.accepted {
-        let setup = reading.setup;
-        text(stdout, b": accepted, version ");
-        number(stdout, reading.version as u64);
-        text(stdout, b", pools");
-        show_pool(stdout, setup, 0);
-        show_pool(stdout, setup, 1);
-        show_pool(stdout, setup, 2);
-        text(stdout, b"\n");
-    } else {
-        text(stdout, b": bad\n");
+    match can_config::read::read(bytes) {
+        Some(reading) => {
+            text(stdout, b": accepted, version ");
+            number(stdout, reading.version as u64);
+            text(stdout, b", pools");
+            show_pool(stdout, reading.setup, 0);
+            show_pool(stdout, reading.setup, 1);
+            show_pool(stdout, reading.setup, 2);
+            text(stdout, b"\n");
+        }
+        None => text(stdout, b": bad\n"),
     }
 }
 

@@ -1,5 +1,4 @@
--- The gate and the service's own verdict are the rules' reason, since the modes that are read are those of the controllers. Where there is
--- none the memory has its size and is cleared whole.
+-- The gate and the service's own verdict are the rules' reason. Where there is none the memory has its size and is cleared whole.
 use Prim.Native.Nat.{ℕ}
 use mathlib.Core.Path.{◌≡◌, refl, sym, ap, ◌∙◌}
 use mathlib.Core.Bool.{Bool, not}
@@ -18,10 +17,9 @@ use Rattle.rules.specs.Chip.{chip}
 use Rattle.core_answers.specs.Answer.{verdict_reason}
 use Rattle.core_answers.proofs.Laws.{behind}
 use Rattle.core_services.specs.Checks.{deinit_checks}
-use Rattle.core_services.proofs.Laws.{gate_room, room_then, deinit_read}
+use Rattle.core_services.proofs.Laws.{gate_room, room_then}
 use Rattle.can_state.specs.declared.state.State.{State}
 use Rattle.can_state.specs.View.{view}
-use Rattle.can_state.proofs.Sizes.{sizes}
 use Rattle.can_state.proofs.Gates.{full_gate_is}
 use Rattle.can_services.proofs.Laws.{accepted_call, refused_call}
 use Rattle.can_services.proofs.deinit.deinit.Goals as goal
@@ -40,15 +38,12 @@ returns-in-Ok c =
     let sheet : List ℕ = c.args.sheet.now in
     let ram : List ℕ = c.args.ram.now in
     let own : ℕ = first_reason (rules.deinit_checks (view state).core) in
-    let own_is : verdict_reason c.judge_deinit.result ≡ own = let s = state in
-    let places = sizes s _ c.well_formed.0 in
-    c.judge_deinit.ensures
-    ∙ ap (λ (started : Bool). first_reason (deinit_checks s.initialised started)) c.some_started-started.ensures
-    ∙ deinit_read {core = (view s).core} s.modes s.requests s.marks (record { second = omega arith; third = omega arith }) (record { initialised_is = refl; count_is = refl; controllers_are = refl }) in
+    let own_is : verdict_reason c.judge_deinit.result ≡ own =
+    c.judge_deinit.ensures ∙ ap (λ (started : Bool). first_reason (deinit_checks state.core.initialised started)) c.some_started-started.ensures in
     let found : verdict_reason c.and.result ≡ (full_gate chip can_format (view state) (length sheet) ram then own) = let gate = full_gate_is state c.valid.ensures (length sheet) ram c.full_gate-gate.ensures in
     behind _ _ c.and.ensures gate own_is in
     let none = sym (ap verdict_reason c.in-Ok.is) ∙ found in
-    accepted_call DEINIT state ram sheet own (initial_state chip can_format) none c.initial_state.ensures c.clear.ensures
+    accepted_call DEINIT state ram sheet own (initial_state chip can_format) none c.initial_state-rest.ensures c.clear.ensures
 
 pub returns-in-Err : goal.returns-in-Err
 unfolding deinit
@@ -57,11 +52,8 @@ returns-in-Err c =
     let sheet : List ℕ = c.args.sheet.now in
     let ram : List ℕ = c.args.ram.now in
     let own : ℕ = first_reason (rules.deinit_checks (view state).core) in
-    let own_is : verdict_reason c.judge_deinit.result ≡ own = let s = state in
-    let places = sizes s _ c.well_formed.0 in
-    c.judge_deinit.ensures
-    ∙ ap (λ (started : Bool). first_reason (deinit_checks s.initialised started)) c.some_started-started.ensures
-    ∙ deinit_read {core = (view s).core} s.modes s.requests s.marks (record { second = omega arith; third = omega arith }) (record { initialised_is = refl; count_is = refl; controllers_are = refl }) in
+    let own_is : verdict_reason c.judge_deinit.result ≡ own =
+    c.judge_deinit.ensures ∙ ap (λ (started : Bool). first_reason (deinit_checks state.core.initialised started)) c.some_started-started.ensures in
     let found : verdict_reason c.and.result ≡ (full_gate chip can_format (view state) (length sheet) ram then own) = let gate = full_gate_is state c.valid.ensures (length sheet) ram c.full_gate-gate.ensures in
     behind _ _ c.and.ensures gate own_is in
     refused_call DEINIT state ram sheet own _ (sym (ap verdict_reason c.in-Err.is) ∙ found) c.refused.ensures

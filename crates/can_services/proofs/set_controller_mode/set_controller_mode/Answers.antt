@@ -1,7 +1,6 @@
-use Rattle.can_services.proofs.set_controller_mode.set_controller_mode.Goals as goal
 -- The gate is the rules', the gate lets no more controllers pass than there are places, the sheet has room for what is reported, and the core's service is lifted to the state.
 use Prim.Native.Nat.{ℕ}
-use mathlib.Core.Path.{◌≡◌, refl, sym, ◌∙◌}
+use mathlib.Core.Path.{◌≡◌, sym, ◌∙◌}
 use mathlib.Core.Bool.{not}
 use mathlib.Core.List.{List, []}
 use native.Mathlib.Omega.{arith}
@@ -15,21 +14,15 @@ use Rattle.core_answers.specs.Answer.{verdict_reason}
 use Rattle.core_services.proofs.Laws.{gate_room}
 use Rattle.can_state.specs.declared.state.State.{State}
 use Rattle.can_state.specs.View.{view}
-use Rattle.can_state.specs.Sizes.{Sized}
-use Rattle.can_state.proofs.Sizes.{sizes}
 use Rattle.can_state.proofs.Gates.{sheet_gate_is, sheet_passed, lifted_performed}
+use Rattle.can_services.proofs.set_controller_mode.set_controller_mode.Goals as goal
 
 pub set_controller_mode-reported-requires : goal.set_controller_mode-reported-requires
 set_controller_mode-reported-requires c =
     let state : State = c.args.state in
     let sheet : List ℕ = c.args.sheet.now in
-    let sized : Sized state = sizes state _ c.well_formed.0 in
     let gate_is : verdict_reason c.sheet_gate-gate.result ≡ sheet_gate chip can_format (view state) (length sheet) = sheet_gate_is state c.valid.ensures (length sheet) c.sheet_gate-gate.ensures in
-    let places = sized in (
-      record { second = omega arith; third = omega arith },
-      λ none. let few = (sheet_passed state (length sheet) (sym gate_is ∙ none)).controllers in omega arith,
-      gate_room (not c.valid.result) (sheet_size chip) sheet [] (omega arith) c.sheet_gate-gate.ensures,
-    )
+    (omega arith, (λ none. (sheet_passed state (length sheet) (sym gate_is ∙ none)).controllers, gate_room (not c.valid.result) (sheet_size chip) sheet [] (omega arith) c.sheet_gate-gate.ensures))
 
 pub returns : goal.returns
 unfolding set_controller_mode
@@ -37,5 +30,4 @@ returns c =
     let state : State = c.args.state in
     let sheet : List ℕ = c.args.sheet.now in
     let gate_is : verdict_reason c.sheet_gate-gate.result ≡ sheet_gate chip can_format (view state) (length sheet) = sheet_gate_is state c.valid.ensures (length sheet) c.sheet_gate-gate.ensures in
-    let done = c.set_controller_mode-reported.ensures (view state).core [] (record { initialised_is = refl; count_is = refl; controllers_are = refl }) in
-    lifted_performed (view state) (rw gate_is at done)
+    lifted_performed (view state) (rw gate_is at (c.set_controller_mode-reported.ensures []))

@@ -1,32 +1,24 @@
-use Prim.Native.Nat.{ℕ, ◌≤◌}
+-- Past the last place there is no controller that could be STARTED.
+use Prim.Native.Nat.{ℕ, ◌≤◌, min}
 use native.Mathlib.Omega.{arith}
-use mathlib.Core.Path.{refl, sym, ap, ◌∙◌}
-use mathlib.Core.Bool.{not}
+use mathlib.Core.Path.{◌≡◌, sym, ap, ◌∙◌}
+use mathlib.Core.Bool.{Bool, not}
 use lib.ListN.{length, get_or-eq_default}
-use lib.Dec.{eqb}
-use Rattle.rules.specs.Repeat.{all_below}
-use Rattle.rules.specs.Mode.{UNINIT, STARTED}
-use Rattle.laws.proofs.Repeat.{all_below_more, all_below_from}
-use Rattle.core_services.proofs.deinit.some_started.Invariants.{not_started}
+use Rattle.rules.specs.Core.{Controller, controller_at, idle_controller, is_started}
+use Rattle.laws.proofs.Repeat.{all_below_from}
 use Rattle.core_services.proofs.deinit.some_started.Goals as goal
 
-pub loop-c-init : goal.loop-c-init
-unfolding all_below
-loop-c-init c = (omega arith, refl)
-
-pub loop-c-preserved : goal.loop-c-preserved
-loop-c-preserved c =
-    let at = c.loop-c in
-    (omega arith, all_below_more (not_started c.args.modes.now) at.c at.invariant.1 refl)
-
 pub returns : goal.returns
-returns c =
+returns g c =
     let at = c.loop-c in
-    let a = c.args in
+    let core = c.args.core.now in
+    let ks = core.controllers in
+    let rests : ℕ → Bool = λ i. not (is_started (controller_at ks i)) in
+    let end : at.c ≡ min core.controller_count (length ks) = omega (arith, c.len.ensures.number, c.len.ensures.places, c.limited-end.ensures) in
     ap not
-    (at.invariant.1
+    (at.invariant
     ∙ sym
-    (all_below_from (not_started a.modes.now) at.c a.count (omega arith)
+    (all_below_from rests at.c core.controller_count (omega arith)
     (λ i from below.
-    let past : length a.modes.now ≤ i = omega arith in
-    ap (λ (m : ℕ). not (eqb m STARTED)) (get_or-eq_default a.modes.now UNINIT past))))
+    let past : length ks ≤ i = omega arith in
+    ap (λ (k : Controller). not (is_started k)) (get_or-eq_default ks idle_controller past))))

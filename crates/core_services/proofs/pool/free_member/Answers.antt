@@ -1,38 +1,36 @@
 use Prim.Native.Nat.{suc, ◌-◌}
 use native.Mathlib.Omega.{arith}
-use mathlib.Core.Path.{◌≡◌, refl}
+use mathlib.Core.Path.{◌≡◌}
 use mathlib.Core.Bool.{true, false, cond}
 use Rattle.rules.specs.Repeat.{lowest_or}
-use Rattle.core_services.specs.Pool.{free_pooled}
+use Rattle.rules.specs.Core.{free_in_pool, free_member}
+use Rattle.core_places.specs.View.{view_core}
 use Rattle.core_services.proofs.pool.free_member.Goals as goal
 
-pub loop-i-init : goal.loop-i-init
-loop-i-init c = (omega arith, refl)
-
-pub loop-i-preserved-then-receivings-i : goal.loop-i-preserved-then-receivings-i
+pub loop-i-preserved-then-o-pool : goal.loop-i-preserved-then-o-pool
 unfolding lowest_or
-loop-i-preserved-then-receivings-i c =
+loop-i-preserved-then-o-pool g c =
     let at = c.loop-i in
-    let a = c.args in
+    let core = view_core c.args.core.now in
     let i = at.i - 1 in
-    let p = free_pooled a.receivings.now a.pools.now a.pendings.now a.pool in
+    let p = free_in_pool core c.args.h in
     let next : at.i ≡ suc i = omega arith in
-    let before : lowest_or i p (cond (p i) i at.member) ≡ lowest_or a.count p a.h = rw next at at.invariant.1 in
-    let free : p i ≡ true = c.if-receivings-i.true in
-    (omega arith, rw free at before)
+    let before : lowest_or i p (cond (p i) i at.member) ≡ free_member core c.args.h = rw next at at.invariant.1 in
+    let free : p i ≡ true = rw (← c.read-o.ensures, ← c.read.ensures, ← at.invariant.0) c.if-o-pool.true in
+    (at.invariant.0, rw free at before)
 
 pub loop-i-preserved : goal.loop-i-preserved
 unfolding lowest_or
-loop-i-preserved c =
+loop-i-preserved g c =
     let at = c.loop-i in
-    let a = c.args in
+    let core = view_core c.args.core.now in
     let i = at.i - 1 in
-    let p = free_pooled a.receivings.now a.pools.now a.pendings.now a.pool in
+    let p = free_in_pool core c.args.h in
     let next : at.i ≡ suc i = omega arith in
-    let before : lowest_or i p (cond (p i) i at.member) ≡ lowest_or a.count p a.h = rw next at at.invariant.1 in
-    let other : p i ≡ false = c.if-receivings-i.false in
-    (omega arith, rw other at before)
+    let before : lowest_or i p (cond (p i) i at.member) ≡ free_member core c.args.h = rw next at at.invariant.1 in
+    let other : p i ≡ false = rw (← c.read-o.ensures, ← c.read.ensures, ← at.invariant.0) c.if-o-pool.false in
+    (at.invariant.0, rw other at before)
 
 pub returns : goal.returns
 unfolding lowest_or
-returns c = let done : c.loop-i.i ≡ 0 = omega arith in rw done at c.loop-i.invariant.1
+returns g c = let done : c.loop-i.i ≡ 0 = omega arith in rw done at c.loop-i.invariant.1

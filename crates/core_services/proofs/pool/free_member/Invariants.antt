@@ -1,12 +1,10 @@
--- Until the loop is done, the lowest free member is the lowest of those not yet passed, or else the one found.
-use Prim.Native.Nat.{◌≤◌}
+-- The lowest free member is the lowest of those not yet passed, or else the one found.
 use mathlib.Core.Path.{◌≡◌}
 use Rattle.rules.specs.Repeat.{lowest_or}
-use Rattle.core_services.specs.Pool.{free_pooled}
+use Rattle.rules.specs.Core.{owner_at, free_in_pool, free_member}
+use Rattle.core_places.specs.View.{view_core}
 use Rattle.core_services.proofs.pool.free_member.Given as goal
 
 abbrev pub invariant-loop-i : goal.invariant-loop-i
-invariant-loop-i l = (l.i ≤ l.count) × (lowest_or l.i (free_pooled l.receivings l.pools l.pendings l.pool) l.member ≡ lowest_or l.count (free_pooled l.receivings l.pools l.pendings l.pool) l.h)
-
-abbrev pub decreases-loop-i : goal.decreases-loop-i
-decreases-loop-i l = l.i
+invariant-loop-i g l =
+    (l.pool ≡ (owner_at l.core.owners l.h).pool) × (lowest_or l.i (free_in_pool (view_core l.core) l.h) l.member ≡ free_member (view_core l.core) l.h)

@@ -1,4 +1,4 @@
--- A development error has room and is the one notification; any other reason has none.
+-- A development error is the one notification; any other reason has none.
 use Prim.Native.Nat.{ℕ}
 use mathlib.Core.Path.{◌≡◌, refl, sym, ap, ◌∙◌}
 use mathlib.Core.Bool.{true, false}
@@ -10,11 +10,6 @@ use Rattle.core_layout.proofs.Placed.{put_first}
 use Rattle.core_answers.specs.Answer.{reason_of}
 use Rattle.core_answers.proofs.Laws.{noted_none}
 use Rattle.core_services.proofs.report.report.Goals as goal
-
-pub put-requires : goal.put-requires
-put-requires c =
-    let error : is_development_error (reason_of c.args.r) ≡ true = rw (sym c.reason-error.ensures) (lt-ltb _ _ c.if-error-lt-FIRST_OWN_REASON.true) in
-    c.requires.has_room error
 
 pub returns-then-error-lt-FIRST_OWN_REASON : goal.returns-then-error-lt-FIRST_OWN_REASON
 returns-then-error-lt-FIRST_OWN_REASON c =

@@ -1,6 +1,0 @@
--- The two tests are the definition's.
-use mathlib.Core.Path.{refl}
-use Rattle.can_config.proofs.record.says_pool.Goals as goal
-
-pub returns : goal.returns
-returns c = refl
