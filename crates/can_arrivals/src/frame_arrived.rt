@@ -30,46 +30,9 @@ pub fn frame_arrived(
         (record { identifier = identifier; sdu = sdu.now }))
         (verdict_reason result.reply) (arrival_answer result.reply) (view result.state) result.notifications ram.new sheet.old sheet.new }
 {
-    let gate = full_gate(valid(state), sheet.len(), SHEET_SIZE, ram.len(), RAM_SIZE);
-    let modes = state.modes;
-    let requests = state.requests;
-    let marks = state.marks;
-    let owners = state.owners;
-    let receivings = state.receivings;
-    let mut pendings = state.pendings;
-    let mut dones = state.dones;
-    let mut fulls = state.fulls;
-    let payloads = state.payloads;
-    let paddings = state.paddings;
-    let codes = state.codes;
-    let masks = state.masks;
-    let reported = arrive_lent(
-        gate,
-        state.initialised,
-        state.controller_count,
-        state.object_count,
-        &modes,
-        &requests,
-        &marks,
-        &owners,
-        &receivings,
-        &mut pendings,
-        &mut dones,
-        &mut fulls,
-        &payloads,
-        &paddings,
-        &codes,
-        &masks,
-        ram,
-        sheet,
-        controller,
-        identifier,
-        sdu,
-    );
     let mut next = state;
-    next.pendings = pendings;
-    next.dones = dones;
-    next.fulls = fulls;
+    let gate = full_gate(valid(state), sheet.len(), SHEET_SIZE, ram.len(), RAM_SIZE);
+    let reported = arrive_lent(gate, &mut next, ram, sheet, controller, identifier, sdu);
     Called {
         state: next,
         reply: reported.reply,

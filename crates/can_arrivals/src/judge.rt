@@ -10,6 +10,7 @@ use core_answers::rejection::Rejection;
 use core_answers::verdict::Verdict;
 
 // Whether a frame can come from the bus: its identifier is good, and its length is a wire length of its format.
+#[tactic(auto, unfolding(rules::specs::Reason::first_reason))]
 pub fn judge_frame(identifier: u32, length: usize) -> Verdict
     ensures { verdict_reason result
         ≡ first_reason

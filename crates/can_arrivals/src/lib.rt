@@ -1,4 +1,4 @@
-// 01's Arrived: which object takes the frame, what becomes of it over lent arrays, and the call on the driver state.
+// 01's Arrived: which object takes the frame, what becomes of it, and the call on the driver state.
 #![tactic(auto)]
 
 pub mod choice;

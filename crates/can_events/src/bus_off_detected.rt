@@ -18,23 +18,9 @@ pub fn bus_off_detected(state: State, controller: u32) -> Called<()>
     ensures { Performed (rules.bus_off_detected chip can_format (view state) [] controller)
         (verdict_reason result.reply) no_answer (view result.state) result.notifications [] [] [] }
 {
-    let gate = state_gate(valid(state));
-    let mut modes = state.modes;
-    let mut requests = state.requests;
-    let mut marks = state.marks;
-    let verdict = core_events::bus_off_detected::bus_off_detected(
-        gate,
-        state.initialised,
-        state.controller_count,
-        &mut modes,
-        &mut requests,
-        &mut marks,
-        controller,
-    );
     let mut next = state;
-    next.modes = modes;
-    next.requests = requests;
-    next.marks = marks;
+    let gate = state_gate(valid(state));
+    let verdict = core_events::bus_off_detected::bus_off_detected(gate, &mut next.core, controller);
     Called {
         state: next,
         reply: verdict,

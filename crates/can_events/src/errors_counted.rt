@@ -26,35 +26,16 @@ pub fn errors_counted(
     ensures { Performed (rules.errors_counted chip can_format (view state) (length sheet.old) [] controller transmit receive)
         (verdict_reason result.reply) no_answer (view result.state) result.notifications [] sheet.old sheet.new }
 {
+    let mut next = state;
     let gate = sheet_gate(valid(state), sheet.len(), SHEET_SIZE);
-    let mut modes = state.modes;
-    let mut requests = state.requests;
-    let mut marks = state.marks;
-    let mut recoverings = state.recoverings;
-    let mut tx_errors = state.tx_errors;
-    let mut rx_errors = state.rx_errors;
     let reported = core_events::errors_counted::errors_counted(
         gate,
-        state.initialised,
-        state.controller_count,
-        &mut modes,
-        &mut requests,
-        &mut marks,
-        &mut recoverings,
-        &mut tx_errors,
-        &mut rx_errors,
+        &mut next.core,
         sheet,
         controller,
         transmit,
         receive,
     );
-    let mut next = state;
-    next.modes = modes;
-    next.requests = requests;
-    next.marks = marks;
-    next.recoverings = recoverings;
-    next.tx_errors = tx_errors;
-    next.rx_errors = rx_errors;
     Called {
         state: next,
         reply: reported.reply,

@@ -1,4 +1,4 @@
-// The events of the driver that carry no frame: the gate with this chip's validity, then the core's event over the state's arrays.
+// The events of the driver that carry no frame: the gate with this chip's validity, then the core's event on the state's core.
 #![tactic(auto)]
 
 pub mod bus_off_detected;

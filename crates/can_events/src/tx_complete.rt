@@ -18,33 +18,9 @@ pub fn tx_complete(state: State, object: u32) -> Called<()>
     ensures { Performed (rules.tx_complete chip can_format (view state) [] object)
         (verdict_reason result.reply) no_answer (view result.state) result.notifications [] [] [] }
 {
-    let gate = state_gate(valid(state));
-    let modes = state.modes;
-    let requests = state.requests;
-    let marks = state.marks;
-    let owners = state.owners;
-    let receivings = state.receivings;
-    let mut pendings = state.pendings;
-    let mut dones = state.dones;
-    let mut fulls = state.fulls;
-    let verdict = core_events::tx_complete::tx_complete(
-        gate,
-        state.initialised,
-        state.object_count,
-        &modes,
-        &requests,
-        &marks,
-        &owners,
-        &receivings,
-        &mut pendings,
-        &mut dones,
-        &mut fulls,
-        object,
-    );
     let mut next = state;
-    next.pendings = pendings;
-    next.dones = dones;
-    next.fulls = fulls;
+    let gate = state_gate(valid(state));
+    let verdict = core_events::tx_complete::tx_complete(gate, &mut next.core, object);
     Called {
         state: next,
         reply: verdict,

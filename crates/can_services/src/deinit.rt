@@ -29,8 +29,9 @@ pub fn deinit(state: State, ram: &mut [u8], sheet: &mut [u32]) -> Called<()>
     match gate.and(judge_deinit(state.core.initialised, started)) {
         Ok(()) => {
             clear(ram);
+            let rest = initial_state();
             Called {
-                state: initial_state(),
+                state: rest,
                 reply: Ok(()),
                 notifications: 0,
             }

@@ -12,6 +12,7 @@ use core_answers::rejection::Rejection;
 use core_answers::verdict::Verdict;
 
 // Reasons 3 and 34: the data fits the frame's format and the object, and the identifier is good.
+#[tactic(auto, unfolding(rules::specs::Reason::first_reason))]
 pub fn judge_frame(s: Settings, identifier: u32, sdu: &[u8]) -> Verdict
     ensures { verdict_reason result ≡ first_reason (can.write_checks (view_settings s) (record { identifier = identifier; sdu = sdu.now })) }
 {

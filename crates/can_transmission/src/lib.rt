@@ -1,4 +1,4 @@
-// The service Write: the core's part and the frame's part over lent arrays, and the call on the driver state.
+// The service Write: the core's part and the frame's part on a lent state, and the call on the driver state.
 #![tactic(auto)]
 
 pub mod judge;

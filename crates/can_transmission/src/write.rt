@@ -11,7 +11,6 @@ ghost use Rattle.can_state.specs.View.{view};
 use crate::lent::write_lent;
 use can_chip::{RAM_SIZE, SHEET_SIZE};
 use can_state::called::Called;
-use can_state::settings::settings_at;
 use can_state::state::State;
 use can_state::validity::valid;
 use core_answers::gate::full_gate;
@@ -31,47 +30,9 @@ pub fn write(
         (record { identifier = identifier; sdu = sdu.now }))
         (verdict_reason result.reply) (write_answer result.reply) (view result.state) result.notifications ram.new sheet.old sheet.new }
 {
-    let gate = full_gate(valid(state), sheet.len(), SHEET_SIZE, ram.len(), RAM_SIZE);
-    let payloads = state.payloads;
-    let paddings = state.paddings;
-    let codes = state.codes;
-    let masks = state.masks;
-    let settings = settings_at(&payloads, &paddings, &codes, &masks, object as usize);
-    let modes = state.modes;
-    let requests = state.requests;
-    let marks = state.marks;
-    let owners = state.owners;
-    let receivings = state.receivings;
-    let pools = state.pools;
-    let mut pendings = state.pendings;
-    let mut dones = state.dones;
-    let mut fulls = state.fulls;
-    let reported = write_lent(
-        gate,
-        state.initialised,
-        state.object_count,
-        &modes,
-        &requests,
-        &marks,
-        &owners,
-        &receivings,
-        &pools,
-        &mut pendings,
-        &mut dones,
-        &mut fulls,
-        settings,
-        &paddings,
-        ram,
-        sheet,
-        object,
-        handle,
-        identifier,
-        sdu,
-    );
     let mut next = state;
-    next.pendings = pendings;
-    next.dones = dones;
-    next.fulls = fulls;
+    let gate = full_gate(valid(state), sheet.len(), SHEET_SIZE, ram.len(), RAM_SIZE);
+    let reported = write_lent(gate, &mut next, ram, sheet, object, handle, identifier, sdu);
     Called {
         state: next,
         reply: reported.reply,

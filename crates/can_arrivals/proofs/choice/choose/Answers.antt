@@ -1,27 +1,23 @@
-use mathlib.Core.Bool.{false, ◌&&◌}
+use mathlib.Core.Path.{◌≡◌}
 use native.Mathlib.Omega.{arith}
-use lib.Dec.{eqb}
-use lib.ListN.{get_or}
-use Rattle.rules.specs.Can.{filter_accepts}
-use Rattle.can_arrivals.proofs.Choices.{compared_own, compared_not, choice_begins, choice_goes_on, choice_ends}
+use Rattle.can_state.specs.View.{view}
+use Rattle.can_arrivals.proofs.Choices.{choice_begins, choice_goes_on, choice_stays, choice_ends}
 use Rattle.can_arrivals.proofs.choice.choose.Goals as goal
 use Rattle.can_arrivals.proofs.choice.choose.Goals.{then-own, else-own}
 
 pub loop-h-init : goal.loop-h-init
-loop-h-init c = choice_begins
-
-pub overflow_cast-own : goal.overflow_cast-own
-overflow_cast-own c = omega (arith, c.shared_slice_known-in-loop-h-2-1.given c.loop-h.h)
+loop-h-init c = choice_begins _ _ _
 
 pub loop-h-preserved : goal.loop-h-preserved
 loop-h-preserved c =
-    let at = c.loop-h in
-    let a = c.args in
-    let own = get_or a.receivings.now at.h false && eqb (get_or a.owners.now at.h 0) a.controller in
-    let accepts = filter_accepts a.identifier (get_or a.codes.now at.h 0) (get_or a.masks.now at.h 0) (get_or a.payloads.now at.h 0) in
-    let full = get_or a.fulls.now at.h false in
-    choice_goes_on at.invariant (omega arith) c.requires.2
-    (elim c.if-own.branch [ then-own w ↦ compared_own at.h accepts full at.best own w.if-own.true w.compare-best.ensures w.best-is | else-own w ↦ compared_not at.h accepts full at.best own w.if-own.false w.best-is ])
+    let more = c.loop-h.invariant in
+    let owner = c.read-owner.ensures in
+    elim c.if-own.branch [
+      | then-own w ↦ rw w.best-is (choice_goes_on _ _ _ more owner w.if-own.true w.read-full.ensures w.read.ensures w.compare-best.ensures)
+      | else-own w ↦ rw w.best-is (choice_stays _ _ _ more owner w.if-own.false)
+    ]
 
 pub returns : goal.returns
-returns c = choice_ends c.loop-h.invariant (omega arith)
+returns c sdu =
+    let all : c.loop-h.h ≡ c.args.state.now.core.object_count = omega arith in
+    choice_ends (view c.args.state.now) c.args.controller c.args.identifier (rw all at c.loop-h.invariant) sdu

@@ -43,7 +43,7 @@ returns-in-Ok c =
     let found : verdict_reason c.and.result ≡ (full_gate chip can_format (view state) (length sheet) ram then own) = let gate = full_gate_is state c.valid.ensures (length sheet) ram c.full_gate-gate.ensures in
     behind _ _ c.and.ensures gate own_is in
     let none = sym (ap verdict_reason c.in-Ok.is) ∙ found in
-    accepted_call DEINIT state ram sheet own (initial_state chip can_format) none c.initial_state.ensures c.clear.ensures
+    accepted_call DEINIT state ram sheet own (initial_state chip can_format) none c.initial_state-rest.ensures c.clear.ensures
 
 pub returns-in-Err : goal.returns-in-Err
 unfolding deinit
