@@ -1,4 +1,3 @@
--- What the proofs of one call over lent arrays share.
+-- What the proofs of one call on a lent state share.
 pub mod Gates
-pub mod Rooms
 pub mod Steps

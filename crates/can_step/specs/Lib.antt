@@ -1,5 +1,3 @@
--- What the contracts of one call over lent arrays say beyond the rules.
-pub mod Places
-pub mod Gathered
+-- What the contracts of one call on a lent state say beyond the rules.
 pub mod Stepped
 pub mod Called

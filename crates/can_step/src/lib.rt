@@ -1,4 +1,4 @@
-// One call of a list, made over lent arrays through the core. A valid state is asked for and a valid one is left, so that no call has to
+// One call of a list, made on a lent state through the core. A valid state is asked for and a valid one is left, so that no call has to
 // test it; only Init and DeInit, which go through the driver's own calls, do.
 //
 // An event says which call: its kind; its object or controller; its identifier, the mode asked for or a transmit count; its handle or a receive

@@ -1,26 +1,24 @@
--- The gate is the rules', the sheet has room for what is told, and the core's event is lifted to the state.
+-- The gate is the rules', what it lets pass has places and room, and the core's event is lifted to the state.
+use Rattle.std.proofs.Common.{rules}
+use mathlib.Core.Path.{sym, ◌∙◌}
 use native.Mathlib.Omega.{arith}
 use lib.ListN.{length}
 use Rattle.rules.specs.Calls.{errors_counted}
-use Rattle.can_state.proofs.Gates.{lifted_performed}
-use Rattle.can_step.proofs.Gates.{sheet_gate_is, sheet_passed, left_is}
-use Rattle.can_step.proofs.Rooms.{alike}
-use borrow.Author.Rules.{rules}
+use Rattle.can_state.specs.View.{view}
+use Rattle.can_state.proofs.Gates.{sheet_gate_is, sheet_room, within, lifted_performed}
+use Rattle.can_step.proofs.Gates.{left_is}
 use Rattle.can_step.proofs.events.counted.Goals as goal
 
 pub errors_counted-requires : goal.errors_counted-requires
-errors_counted-requires c = (
-  alike c.requires.1,
-  alike c.requires.2,
-  λ none.
-      let room = sheet_passed (length c.args.sheet.now) c.sheet_gate-gate.ensures none in
-      record { controllers_fit = omega (arith, c.requires.0, c.requires.1.first); errors_fit = omega (arith, c.requires.0, c.requires.2.first); sheet_fits = omega arith },
-)
+errors_counted-requires c =
+    let state = c.args.state.now in
+    let sheet = length c.args.sheet.now in
+    let gate = sheet_gate_is state (sym c.requires) sheet c.sheet_gate-gate.ensures in
+    (search rules, λ none. let room = sheet_room state sheet (sym gate ∙ none) in ((within state c.requires).controllers, omega arith))
 
 pub returns : goal.returns
 unfolding errors_counted
-returns c = record {
-  left = (λ s ram v held errors.
-      left_is (lifted_performed s (rw (sheet_gate_is s v (length c.args.sheet.now) c.sheet_gate-gate.ensures) at (c.errors_counted.ensures s.core ram held errors))));
-  places = (record { first = search rules; second = search rules; third = search rules }, record { first = search rules; second = search rules; third = search rules });
-}
+returns c ram =
+    let state = c.args.state.now in
+    let gate = sheet_gate_is state (sym c.requires) (length c.args.sheet.now) c.sheet_gate-gate.ensures in
+    left_is (lifted_performed (view state) (rw gate at (c.errors_counted.ensures ram)))

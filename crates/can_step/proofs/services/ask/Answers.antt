@@ -1,4 +1,6 @@
 -- The gate is the rules', the sheet has room for what is reported, and the core's service is lifted to the state.
+use Rattle.std.proofs.Common.{rules}
+use mathlib.Core.Path.{sym}
 use mathlib.Core.Bool.{true, not}
 use mathlib.Core.List.{[]}
 use native.Mathlib.Omega.{arith}
@@ -7,18 +9,17 @@ use Rattle.rules.specs.Limits.{sheet_size}
 use Rattle.rules.specs.Calls.{ask_controller}
 use Rattle.rules.specs.Chip.{chip}
 use Rattle.core_services.proofs.Laws.{gate_room}
-use Rattle.can_state.proofs.Gates.{lifted_performed}
-use Rattle.can_step.proofs.Gates.{sheet_gate_is, left_is}
-use Rattle.can_step.proofs.Rooms.{alike}
+use Rattle.can_state.specs.View.{view}
+use Rattle.can_state.proofs.Gates.{sheet_gate_is, lifted_performed}
+use Rattle.can_step.proofs.Gates.{left_is}
 use Rattle.can_step.proofs.services.ask.Goals as goal
 
 pub ask_controller-requires : goal.ask_controller-requires
-ask_controller-requires c =
-    (alike c.requires.0, alike c.requires.1, gate_room (not true) (sheet_size chip) c.args.sheet.now [] (omega arith) c.sheet_gate-gate.ensures)
+ask_controller-requires c = (search rules, gate_room (not true) (sheet_size chip) c.args.sheet.now [] (omega arith) c.sheet_gate-gate.ensures)
 
 pub returns : goal.returns
 unfolding ask_controller
-returns c s ram v held errors =
-    left_is
-    (lifted_performed s
-    (rw (sheet_gate_is s v (length c.args.sheet.now) c.sheet_gate-gate.ensures) at (c.ask_controller.ensures s.core ram held errors)))
+returns c ram =
+    let state = c.args.state.now in
+    let gate = sheet_gate_is state (sym c.requires) (length c.args.sheet.now) c.sheet_gate-gate.ensures in
+    left_is (lifted_performed (view state) (rw gate at (c.ask_controller.ensures ram)))

@@ -1,4 +1,6 @@
 -- The gate is the rules', the sheet has room for what is reported, and the core's service is lifted to the state.
+use Rattle.std.proofs.Common.{rules}
+use mathlib.Core.Path.{sym}
 use mathlib.Core.Bool.{true, not}
 use mathlib.Core.List.{[]}
 use native.Mathlib.Omega.{arith}
@@ -7,22 +9,18 @@ use Rattle.rules.specs.Limits.{sheet_size}
 use Rattle.rules.specs.Calls.{set_controller_mode}
 use Rattle.rules.specs.Chip.{chip}
 use Rattle.core_services.proofs.Laws.{gate_room}
-use Rattle.can_state.proofs.Gates.{lifted_performed}
-use Rattle.can_step.proofs.Gates.{sheet_gate_is, left_is}
-use Rattle.can_step.proofs.Rooms.{alike}
-use borrow.Author.Rules.{rules}
+use Rattle.can_state.specs.View.{view}
+use Rattle.can_state.proofs.Gates.{sheet_gate_is, within, lifted_performed}
+use Rattle.can_step.proofs.Gates.{left_is}
 use Rattle.can_step.proofs.services.set_mode.Goals as goal
 
 pub set_controller_mode-requires : goal.set_controller_mode-requires
 set_controller_mode-requires c =
-    let places = c.requires.1 in
-    let few = c.requires.0 in
-    (alike places, (λ none. omega arith), gate_room (not true) (sheet_size chip) c.args.sheet.now [] (omega arith) c.sheet_gate-gate.ensures)
+    (search rules, (λ none. (within c.args.state.now c.requires).controllers, gate_room (not true) (sheet_size chip) c.args.sheet.now [] (omega arith) c.sheet_gate-gate.ensures))
 
 pub returns : goal.returns
 unfolding set_controller_mode
-returns c = record {
-  left = (λ s ram v held.
-      left_is (lifted_performed s (rw (sheet_gate_is s v (length c.args.sheet.now) c.sheet_gate-gate.ensures) at (c.set_controller_mode.ensures s.core ram held))));
-  places = record { first = search rules; second = search rules; third = search rules };
-}
+returns c ram =
+    let state = c.args.state.now in
+    let gate = sheet_gate_is state (sym c.requires) (length c.args.sheet.now) c.sheet_gate-gate.ensures in
+    left_is (lifted_performed (view state) (rw gate at (c.set_controller_mode.ensures ram)))
