@@ -38,6 +38,7 @@ fn pair(high: u8, low: u8) -> u8
 }
 
 // Puts the byte of each pair of digits into out, from position at on.
+#[tactic(auto, unfolding(crate::specs::Reading::hex_pairs, rules::specs::Repeat::list_below, rules::specs::Bytes::splice))]
 fn put_pairs(word: &[u8], out: &mut [u8], at: usize)
     requires { 2 * at + length word.now ≤ 2 * length out.old }
     ensures { out.new ≡ splice at (numbers.hex_pairs word.now) out.old }
@@ -79,7 +80,7 @@ fn is_none(text: &[u8]) -> bool
 
 // Puts the bytes that the words of a text say at the start of out, and answers how many there are, or the trouble with the first word that
 // can't be read.
-#[tactic(auto, unfolding(crate::specs::Reading::bytes_of))]
+#[tactic(auto, unfolding(crate::specs::Reading::bytes_of, rules::specs::Bytes::splice))]
 pub fn bytes(text: &[u8], out: &mut [u8; MOST_BYTES]) -> Result<u32, Trouble>
     ensures { numbers.BytesRead (numbers.bytes_of text.now) out.old out.new result }
 {

@@ -7,3 +7,7 @@ use Rattle.bench_script.proofs.command.poll.Goals as goal
 pub returns-in-busoff : goal.returns-in-busoff
 unfolding poll_of
 returns-in-busoff c = let spelled : c.args.word.now ≡ codes "busoff" = text_from_reads _ _ (search rules) (search rules) in search rules
+
+pub returns-in-write : goal.returns-in-write
+unfolding poll_of
+returns-in-write c = let spelled : c.args.word.now ≡ codes "write" = text_from_reads _ _ (search rules) (search rules) in search rules

@@ -1,4 +1,4 @@
--- `bench_script::name::name_of` meets its contract: the word is spelled as the arm's text. The check finds the arms of short texts, and the last one.
+-- `bench_script::name::name_of` meets its contract: the word is spelled as the arm's text. The check finds the arms of three bytes, and the last one.
 use Rattle.std.proofs.Common.{rules, ◌≡◌, codes}
 use Rattle.std.proofs.lemmas.Slice.Eq.{text_from_reads}
 use Rattle.bench_script.specs.Name.{name_of}
@@ -59,3 +59,27 @@ returns-in-errorstate c = let spelled : c.args.word.now ≡ codes "errorstate" =
 pub returns-in-controllers : goal.returns-in-controllers
 unfolding name_of
 returns-in-controllers c = let spelled : c.args.word.now ≡ codes "controllers" = text_from_reads _ _ (search rules) (search rules) in search rules
+
+pub returns-in-init : goal.returns-in-init
+unfolding name_of
+returns-in-init c = let spelled : c.args.word.now ≡ codes "init" = text_from_reads _ _ (search rules) (search rules) in search rules
+
+pub returns-in-poll : goal.returns-in-poll
+unfolding name_of
+returns-in-poll c = let spelled : c.args.word.now ≡ codes "poll" = text_from_reads _ _ (search rules) (search rules) in search rules
+
+pub returns-in-sent : goal.returns-in-sent
+unfolding name_of
+returns-in-sent c = let spelled : c.args.word.now ≡ codes "sent" = text_from_reads _ _ (search rules) (search rules) in search rules
+
+pub returns-in-show : goal.returns-in-show
+unfolding name_of
+returns-in-show c = let spelled : c.args.word.now ≡ codes "show" = text_from_reads _ _ (search rules) (search rules) in search rules
+
+pub returns-in-next : goal.returns-in-next
+unfolding name_of
+returns-in-next c = let spelled : c.args.word.now ≡ codes "next" = text_from_reads _ _ (search rules) (search rules) in search rules
+
+pub returns-in-data : goal.returns-in-data
+unfolding name_of
+returns-in-data c = let spelled : c.args.word.now ≡ codes "data" = text_from_reads _ _ (search rules) (search rules) in search rules

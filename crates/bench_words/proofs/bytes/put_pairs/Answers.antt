@@ -1,14 +1,10 @@
-use Rattle.std.proofs.Common.{arith, ◌/◌, ◌≡◌, refl, sym, [], length, add-one, length-set}
+use Rattle.std.proofs.Common.{arith, ◌/◌, ◌≡◌, [], length, add-one}
 use Rattle.rules.specs.Repeat.{list_below}
-use Rattle.laws.proofs.Splices.{splice_nil, splice_more}
+use Rattle.laws.proofs.Splices.{splice_more}
 use Rattle.laws.proofs.Repeat.{length-list_below}
-use Rattle.bench_words.specs.Reading.{pair_at, hex_pairs}
+use Rattle.bench_words.specs.Reading.{pair_at}
 use Rattle.bench_words.proofs.Pairs.{pair_is}
 use Rattle.bench_words.proofs.bytes.put_pairs.Goals as goal
-
-pub loop-i-init : goal.loop-i-init
-unfolding list_below
-loop-i-init c = (refl, sym (splice_nil c.args.at c.args.out.now))
 
 pub loop-i-preserved : goal.loop-i-preserved
 unfolding list_below
@@ -17,15 +13,6 @@ loop-i-preserved c =
     let i = c.loop-i.i in
     let said : c.pair.result ≡ pair_at given.word.now i =
     rw (c.pair.ensures, c.as_chunks.ensures.front) (pair_is (length given.word.now / 2) i given.word.now [] (omega arith)) in
-    let run = list_below i (pair_at given.word.now) in (
-      simp length-set c.loop-i.invariant.0,
-      rw (c.loop-i.invariant.1, said, add-one i)
-          (splice_more given.at i run given.out.now (pair_at given.word.now i) (length-list_below i (pair_at given.word.now)) (omega arith)),
-    )
-
-pub returns : goal.returns
-unfolding hex_pairs
-returns c =
-    let word = c.args.word.now in
-    let done : c.loop-i.i ≡ length word / 2 = omega arith in
-    rw done at c.loop-i.invariant.1
+    let run = list_below i (pair_at given.word.now) in
+    rw (c.loop-i.invariant, said, add-one i)
+    (splice_more given.at i run given.out.now (pair_at given.word.now i) (length-list_below i (pair_at given.word.now)) (omega arith))

@@ -1,11 +1,6 @@
-use Rattle.std.proofs.Common.{arith, ◌∙◌, refl}
-use Rattle.bench_words.specs.Reading.{value}
+use Rattle.std.proofs.Common.{◌∙◌}
 use Rattle.bench_words.proofs.Digits.{next, too_large, whole}
 use Rattle.bench_words.proofs.digit.value.Goals as goal
-
-pub loop-b-init : goal.loop-b-init
-unfolding value
-loop-b-init c = record { low = omega arith; rest = refl }
 
 pub loop-b-preserved : goal.loop-b-preserved
 loop-b-preserved c = next c.args.base c.args.word.now c.loop-b.invariant c.loop-b-test.true c.digit.ensures.value c.in_ok-value.ensures

@@ -13,3 +13,8 @@ pub returns-in-STOPPED : goal.returns-in-STOPPED
 unfolding mode_of
 returns-in-STOPPED c =
     let spelled : c.args.word.now ≡ codes "STOPPED" = text_from_reads _ _ (search rules) (search rules) in search rules
+
+pub returns-in-SLEEP : goal.returns-in-SLEEP
+unfolding mode_of
+returns-in-SLEEP c =
+    let spelled : c.args.word.now ≡ codes "SLEEP" = text_from_reads _ _ (search rules) (search rules) in search rules
