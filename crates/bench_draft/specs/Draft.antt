@@ -1,6 +1,7 @@
 -- The bytes of a configuration that is said in words, as docs/BENCH.md has them: a header, then a record for each object. The
 -- rules say how long both are, and which byte counts the objects.
-use Rattle.std.specs.Prelude.{ℕ, ◌+◌, ◌*◌, ◌%◌, ◌≡◌, Bool, cond, List, [], ◌∷◌, ◌++◌, get_or, eqb, ltb}
+use Rattle.std.specs.Prelude.{ℕ, ◌+◌, ◌*◌, ◌%◌, ◌≡◌, Bool, cond, List, [], ◌∷◌, ◌++◌, get_or, eqb, ltb, Result, is_ok}
+use Rattle.bench_draft.specs.declared.draft.TooManyObjects.{TooManyObjects}
 use Rattle.rules.specs.Bytes.{big_endian, splice}
 use Rattle.rules.specs.Repeat.{rising}
 use Rattle.rules.specs.Configuration.{header_size, objects_byte}
@@ -50,7 +51,11 @@ in_pools draft = cond (says_pools draft) draft (splice 4 (2 ∷ []) (rising (obj
 abbrev pub with_record : ℕ → List ℕ → List ℕ → List ℕ
 with_record object bytes draft = splice 6 ((object + 1) ∷ []) (splice (record_at object) bytes draft)
 
+-- there is room for one more object
+abbrev pub has_room : List ℕ → Bool
+has_room draft = ltb (objects_byte draft) most_objects
+
 -- what adding an object owes: whether there was room, and then the draft with it
-pub record Added (more before after : List ℕ) (r : Bool) : Type 0 where
-  pub room : r ≡ ltb (objects_byte before) most_objects
-  pub bytes_are : after ≡ cond (ltb (objects_byte before) most_objects) more before
+pub record Added (more before after : List ℕ) (r : Result Unit TooManyObjects) : Type 0 where
+  pub room : is_ok r ≡ has_room before
+  pub bytes_are : after ≡ cond (has_room before) more before

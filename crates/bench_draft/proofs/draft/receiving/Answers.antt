@@ -1,8 +1,0 @@
--- `bench_draft::draft::receiving` meets its contract: the casts keep the low eight bits, as the definition does; the rest computes.
-use native.Mathlib.Nat.{div-one}
-use Rattle.rules.specs.Bytes.{big_endian}
-use Rattle.bench_draft.proofs.draft.receiving.Goals as goal
-
-pub returns : goal.returns
-unfolding big_endian
-returns c = simp div-one
