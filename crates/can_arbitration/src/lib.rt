@@ -1,4 +1,4 @@
-// 02's choice of who sends next on a controller: which object goes first, the choice over lent arrays, and the call on the driver state.
+// 02's choice of who sends next on a controller: which object goes first, the choice over a lent core, and the call on the driver state.
 #![tactic(auto)]
 
 mod choice;

@@ -21,22 +21,5 @@ pub fn next_to_send(state: State, ram: &[u8], controller: u32) -> NextReply
         (verdict_reason result) (next_answer result) (view state) 0 ram.now [] [] }
 {
     let gate = ram_gate(valid(state), ram.len(), RAM_SIZE);
-    let marks = state.marks;
-    let owners = state.owners;
-    let pendings = state.pendings;
-    let dones = state.dones;
-    let fulls = state.fulls;
-    next_lent(
-        gate,
-        state.initialised,
-        state.controller_count,
-        state.object_count,
-        &marks,
-        &owners,
-        &pendings,
-        &dones,
-        &fulls,
-        ram,
-        controller,
-    )
+    next_lent(gate, &state.core, ram, controller)
 }
