@@ -32,13 +32,7 @@ pub fn off(state: &mut State, controller: u32)
 }
 
 // Error counts.
-pub fn counted(
-    state: &mut State,
-    sheet: &mut [u32],
-    controller: u32,
-    transmit: u32,
-    receive: u32,
-)
+pub fn counted(state: &mut State, sheet: &mut [u32], controller: u32, transmit: u32, receive: u32)
     requires { Stands state.old }
     ensures { (ram : List ℕ) → whole (view state.new) ram sheet.new
         ≡ whole_of (calls.errors_counted chip can_format (view state.old) (length sheet.old) ram controller transmit receive) sheet.old }

@@ -1,0 +1,26 @@
+-- The gate is the rules', what it lets pass has room, and the rest is Write on the state that is lent.
+use mathlib.Core.Path.{sym, ◌∙◌}
+use native.Mathlib.Omega.{arith}
+use lib.ListN.{length}
+use Rattle.rules.specs.Limits.{sheet_size}
+use Rattle.rules.specs.Calls.{write}
+use Rattle.rules.specs.Chip.{chip}
+use Rattle.core_services.proofs.Laws.{gate_room}
+use Rattle.can_state.proofs.Gates.{full_gate_is, passed}
+use Rattle.can_step.proofs.Gates.{left_is}
+use Rattle.can_step.proofs.frames.write.Goals as goal
+
+pub write_lent-requires : goal.write_lent-requires
+write_lent-requires c =
+    let a = c.args in
+    let gate = full_gate_is a.state.now (sym c.requires) (length a.sheet.now) a.ram.now c.full_gate-gate.ensures in (
+      gate_room _ (sheet_size chip) a.sheet.now _ (omega arith) c.full_gate-gate.ensures,
+      λ none. let room = passed a.state.now (length a.sheet.now) a.ram.now (sym gate ∙ none) in record { objects_fit = room.places.objects; ram_whole = room.ram_whole },
+    )
+
+pub returns : goal.returns
+unfolding write
+returns c =
+    let a = c.args in
+    let gate = full_gate_is a.state.now (sym c.requires) (length a.sheet.now) a.ram.now c.full_gate-gate.ensures in
+    left_is (rw gate at c.write_lent.ensures)
