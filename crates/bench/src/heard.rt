@@ -1,7 +1,5 @@
 // How far the script is read. Lines that say nothing are counted and passed over here, before anything of the night is touched.
-use bench_lines::count::of_bytes;
-use bench_lines::reader;
-use bench_lines::reader::{Reader, advanced, will_read};
+use bench_lines::reader::{Line, Reader};
 use bench_plain::night::more;
 use bench_script::command::says_nothing;
 use std::io::Read;
@@ -15,54 +13,45 @@ pub struct Heard {
 }
 
 pub fn nothing() -> Heard {
-    let reader = reader::begun();
     Heard {
-        reader: reader,
+        reader: Reader::begun(),
         lines: 0,
         said: false,
     }
 }
 
-// Whether a line is read that says something.
-fn is_said(reader: Reader, line: &[u8]) -> bool {
-    if !reader.whole {
-        return false;
+// The line that is read, where it is whole.
+pub fn whole_line(reader: Reader, line: &[u8]) -> Option<&[u8]> {
+    match reader.line {
+        Line::Whole(count) => Some(&line[..count.min(line.len())]),
+        Line::Part(_) => None,
     }
-    let end = of_bytes(reader.count, line);
-    !says_nothing(&line[..end])
 }
 
 // One step on.
 fn stepped<R: Read>(source: &mut R, heard: Heard, input: &mut [u8], line: &mut [u8]) -> Heard {
-    let before = heard.reader;
-    let reader = advanced(source, before, input, line);
-    let lines = if reader.whole {
-        more(heard.lines)
-    } else {
-        heard.lines
+    let mut reader = heard.reader;
+    reader.advance(source, input, line);
+    let (lines, said) = match whole_line(reader, line) {
+        Some(text) => (more(heard.lines), !says_nothing(text)),
+        None => (heard.lines, false),
     };
-    let said = is_said(reader, line);
     Heard {
-        reader: reader,
-        lines: lines,
-        said: said,
+        reader,
+        lines,
+        said,
     }
 }
 
-// Whether a line waits to be played, or the next step reads.
-fn is_due(heard: Heard, input: &[u8]) -> bool {
-    let reader = heard.reader;
-    heard.said | will_read(reader, input)
-}
-
-// Goes on to the next line that says something, or to the end of what is read of the input. The steps are counted down, from more than
-// a piece has lines.
+// Goes on to the next line that says something, or to the end of what is read of the input: then the next step would read. The steps are counted,
+// up to more than a piece has lines, so that the check sees an end.
 pub fn sought<R: Read>(source: &mut R, start: Heard, input: &mut [u8], line: &mut [u8]) -> Heard {
     let mut heard = start;
-    let mut steps: u64 = 0xFFFFFFFFFFFFFFFF;
-    while 0 < steps {
+    for _ in 0..u64::MAX {
         heard = stepped(source, heard, input, line);
-        steps = if is_due(heard, input) { 0 } else { steps - 1 };
+        if heard.said | heard.reader.will_read(input) {
+            break;
+        }
     }
     heard
 }

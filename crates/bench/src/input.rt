@@ -1,11 +1,10 @@
 // The whole of a script, played line by line.
 ghost use Rattle.std.specs.Prelude.{◌≡◌, length};
 
-use crate::heard::{Heard, sought};
+use crate::heard::{Heard, sought, whole_line};
 use crate::{heard, line, report};
 use bench_draft::draft;
-use bench_lines::count::of_bytes;
-use bench_lines::reader::will_read;
+use bench_lines::reader::Status;
 use bench_messages::reports;
 use bench_plain::night::{CANCELLED_AT, Desk, Night, OUT_ROOM, OUTPUT, TAKEN_AT};
 use bench_plain::{book, night, summary, waiting};
@@ -100,11 +99,12 @@ fn played(
     if !heard.said {
         return night;
     }
-    let reader = heard.reader;
-    let end = of_bytes(reader.count, line);
+    let Some(text) = whole_line(heard.reader, line) else {
+        return night;
+    };
     let next = line::play(
         at_line(night, heard.lines),
-        &line[..end],
+        text,
         memory,
         sheet,
         bytes,
@@ -138,8 +138,7 @@ fn step<R: Read>(
 ) -> Playing {
     let last = playing.night;
     let before = playing.heard;
-    let reader = before.reader;
-    let mut night = written_if_reading(stdout, last, will_read(reader, input), out);
+    let mut night = written_if_reading(stdout, last, before.reader.will_read(input), out);
     let heard = sought(source, before, input, line);
     night = played(
         stdout, night, heard, line, memory, sheet, bytes, draft, out, book,
@@ -152,14 +151,10 @@ fn step<R: Read>(
 
 // Whether nothing more is played.
 fn is_over(playing: Playing) -> bool {
-    let heard = playing.heard;
-    let reader = heard.reader;
-    let night = playing.night;
-    let desk = night.desk;
-    reader.ended | desk.stuck
+    !matches!(playing.heard.reader.status, Status::Open) | playing.night.desk.stuck
 }
 
-// Plays the script to its end. Nothing says that an input ends, so the steps are counted down, from more than there can be.
+// Plays the script to its end. Nothing says that an input ends, so the steps are counted, up to more than there can be.
 fn all<R: Read>(
     source: &mut R,
     stdout: &impl Print,
@@ -174,12 +169,13 @@ fn all<R: Read>(
     book: &mut [u64; book::ROOM],
 ) -> Playing {
     let mut playing = start;
-    let mut steps: u64 = 0xFFFFFFFFFFFFFFFF;
-    while 0 < steps {
+    for _ in 0..u64::MAX {
         playing = step(
             source, stdout, playing, input, line, memory, sheet, bytes, draft, out, book,
         );
-        steps = if is_over(playing) { 0 } else { steps - 1 };
+        if is_over(playing) {
+            break;
+        }
     }
     playing
 }
@@ -289,7 +285,7 @@ fn closed(
         judged(stderr, desk, lines);
         return;
     }
-    let own = of_bytes(RAM_SIZE, memory);
+    let own = RAM_SIZE.min(memory.len());
     let state = night.state;
     book::count_left_over(book, state);
     let last = finished(stdout, night, lines, &memory[..own], out, book);
@@ -307,8 +303,7 @@ fn ended(
 ) {
     let night = playing.night;
     let heard = playing.heard;
-    let reader = heard.reader;
-    if reader.failed {
+    if matches!(heard.reader.status, Status::Failed) {
         let desk = night.desk;
         written(stdout, desk, out);
         report::unread(stderr, heard.lines);

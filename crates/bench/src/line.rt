@@ -1,7 +1,8 @@
 // One line of a night.
 use crate::terse;
-use bench_draft::draft::{ROOM, add_in_pool, add_receiving, add_sending, begin, objects, size};
-use bench_lines::count::{of_bytes, of_words};
+use bench_draft::draft::{
+    ROOM, TooManyObjects, add_in_pool, add_receiving, add_sending, begin, objects, size,
+};
 use bench_messages::lines;
 use bench_plain::night::{Desk, Night, more};
 use bench_plain::object::bytes;
@@ -49,8 +50,8 @@ fn performed(
     memory: &mut [u8],
     sheet: &mut [u32],
 ) -> Played {
-    let lent_bytes = of_bytes(desk.memory, memory);
-    let lent_words = of_words(desk.sheet, sheet);
+    let lent_bytes = desk.memory.min(memory.len());
+    let lent_words = desk.sheet.min(sheet.len());
     perform(
         state,
         &mut memory[..lent_bytes],
@@ -74,7 +75,7 @@ fn told(
 ) -> Told {
     let request = wanted.request;
     if desk.plain {
-        let lent = of_bytes(desk.memory, memory);
+        let lent = desk.memory.min(memory.len());
         let ram = &memory[..lent];
         let length = wanted.length;
         return in_words(
@@ -125,7 +126,7 @@ fn call_of_line(
     out: &mut [u8],
     book: &mut [u64],
 ) -> Night {
-    let count = of_bytes(wanted.length as usize, bytes);
+    let count = (wanted.length as usize).min(bytes.len());
     call(night, wanted, &bytes[..count], memory, sheet, out, book)
 }
 
@@ -153,14 +154,14 @@ fn init_in_words(
     out: &mut [u8],
     book: &mut [u64],
 ) -> Night {
-    let count = of_bytes(size(draft), draft);
+    let count = size(draft).min(draft.len());
     let wanted = init((count % 0x100000000) as u32);
     let next = call(night, wanted, &draft[..count], memory, sheet, out, book);
     configuration(next, draft, out)
 }
 
 fn data(desk: Desk, object: u32, memory: &[u8], out: &mut [u8]) -> usize {
-    let lent = of_bytes(desk.memory, memory);
+    let lent = desk.memory.min(memory.len());
     let data = can::data_of(&memory[..lent], object);
     if desk.plain {
         return plain::data(out, desk.at, desk.line, object, data);
@@ -239,8 +240,14 @@ fn not_understood(desk: Desk, trouble: Trouble, line: &[u8], out: &mut [u8]) -> 
 }
 
 // An object of the configuration in words, where there was room for it.
-fn object_added(desk: Desk, added: bool, number: u8, line: &[u8], out: &mut [u8]) -> Desk {
-    if !added {
+fn object_added(
+    desk: Desk,
+    added: Result<(), TooManyObjects>,
+    number: u8,
+    line: &[u8],
+    out: &mut [u8],
+) -> Desk {
+    if added.is_err() {
         return not_understood(desk, Trouble::TooManyObjects, line, out);
     }
     let mut next = desk;
@@ -359,7 +366,7 @@ fn config_into(
     buffer: &mut [u8],
     out: &mut [u8],
 ) -> usize {
-    let count = of_bytes(room as usize, buffer);
+    let count = (room as usize).min(buffer.len());
     let setup = can::configuration_of(state);
     let reply = can::write_configuration(version, setup, &mut buffer[..count]);
     if desk.plain {

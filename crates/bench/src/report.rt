@@ -1,5 +1,4 @@
 // What goes wrong with a whole night, in one line on standard error.
-use bench_lines::count::of_bytes;
 use bench_messages::reports;
 use bench_plain::night::Desk;
 
@@ -7,7 +6,7 @@ const ROOM: usize = 256;
 
 // Says the first bytes of a text. Where even that fails, there is nobody to tell.
 fn said(stderr: &impl Print, text: &[u8], end: usize) {
-    let count = of_bytes(end, text);
+    let count = end.min(text.len());
     let _ = stderr.write_all(&text[..count]);
 }
 

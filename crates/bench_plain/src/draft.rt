@@ -1,6 +1,5 @@
 // The configuration in words, shown as bytes: a line for the header, and one for each object.
 use bench_draft::draft::size;
-use bench_lines::count::of_bytes;
 use bench_text::put::{put, put_hex};
 use bench_words::split::between;
 use can_config::header::HEADER_SIZE;
@@ -31,7 +30,7 @@ fn records(out: &mut [u8], at: usize, bytes: &[u8]) -> usize {
 
 // All bytes of the configuration.
 pub fn shown(out: &mut [u8], at: usize, draft: &[u8]) -> usize {
-    let size = of_bytes(size(draft), draft);
+    let size = size(draft).min(draft.len());
     let end = row(out, at, between(draft, 0, HEADER_SIZE));
     records(out, end, between(draft, HEADER_SIZE, size))
 }

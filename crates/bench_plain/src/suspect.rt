@@ -1,5 +1,4 @@
 // The word that is wrong with a line that was not understood, so that it can be found in the script, and what may have been meant.
-use bench_lines::count::of_bytes;
 use bench_messages::lines;
 use bench_script::command::LARGEST_BYTE;
 use bench_script::name::Name;
@@ -169,7 +168,7 @@ pub fn shown(
     if word.is_empty() {
         return at;
     }
-    let end = of_bytes(SHOWN, word);
+    let end = SHOWN.min(word.len());
     let start = &word[..end];
     lines::quoted(out, at, start, all_printable(start))
 }

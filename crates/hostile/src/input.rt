@@ -1,8 +1,6 @@
 // The whole of the input, played line by line.
 use crate::line;
-use bench_lines::count::of_bytes;
-use bench_lines::reader;
-use bench_lines::reader::{Reader, advanced};
+use bench_lines::reader::{Line, Reader, Status};
 use bench_script::command::{LARGEST_MEMORY, LARGEST_SHEET};
 use bench_words::bytes::{LONGEST_LINE, MOST_BYTES};
 use std::io::Read;
@@ -20,7 +18,7 @@ struct Playing {
 
 // Writes what stands in the output buffer.
 fn written(stdout: &impl Print, at: usize, out: &[u8]) -> usize {
-    let end = of_bytes(at, out);
+    let end = at.min(out.len());
     let _ = stdout.write_all(&out[..end]);
     0
 }
@@ -44,20 +42,16 @@ fn played(
     bytes: &mut [u8; MOST_BYTES],
     out: &mut [u8],
 ) -> Playing {
-    if !reader.whole {
-        return Playing {
-            at: playing.at,
-            line: playing.line,
-            reader: reader,
-        };
-    }
+    let Line::Whole(count) = reader.line else {
+        return Playing { reader, ..playing };
+    };
     let number = std::num::wrapping_add_u64(playing.line, 1);
-    let end = of_bytes(reader.count, line);
-    let at = line::play(out, playing.at, number, &line[..end], bytes, memory, sheet);
+    let text = &line[..count.min(line.len())];
+    let at = line::play(out, playing.at, number, text, bytes, memory, sheet);
     Playing {
         at: written_if_full(stdout, at, out),
         line: number,
-        reader: reader,
+        reader,
     }
 }
 
@@ -73,11 +67,12 @@ fn step<R: Read>(
     bytes: &mut [u8; MOST_BYTES],
     out: &mut [u8],
 ) -> Playing {
-    let reader = advanced(source, playing.reader, input, line);
+    let mut reader = playing.reader;
+    reader.advance(source, input, line);
     played(stdout, playing, reader, line, memory, sheet, bytes, out)
 }
 
-// Plays the input to its end. Nothing says that an input ends, so the steps are counted down, from more than there can be.
+// Plays the input to its end. Nothing says that an input ends, so the steps are counted, up to more than there can be.
 fn all<R: Read>(
     source: &mut R,
     stdout: &impl Print,
@@ -90,13 +85,13 @@ fn all<R: Read>(
     out: &mut [u8],
 ) -> Playing {
     let mut playing = start;
-    let mut steps: u64 = 0xFFFFFFFFFFFFFFFF;
-    while 0 < steps {
+    for _ in 0..u64::MAX {
         playing = step(
             source, stdout, playing, input, line, memory, sheet, bytes, out,
         );
-        let reader = playing.reader;
-        steps = if reader.ended { 0 } else { steps - 1 };
+        if !matches!(playing.reader.status, Status::Open) {
+            break;
+        }
     }
     playing
 }
@@ -106,7 +101,7 @@ fn begun() -> Playing {
     Playing {
         at: 0,
         line: 0,
-        reader: reader::begun(),
+        reader: Reader::begun(),
     }
 }
 

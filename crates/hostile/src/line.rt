@@ -4,7 +4,6 @@ use crate::number::after;
 use crate::pattern::{fill_memory, fill_sheet, memory_same, sheet_same};
 use crate::print::{answered, changes, unreadable};
 use crate::same::same;
-use bench_lines::count::{of_bytes, of_words};
 use bench_words::bytes::{LONGEST_LINE, MOST_BYTES};
 use bench_words::split::word;
 use can_calls::perform::{Played, perform};
@@ -13,8 +12,8 @@ use can_calls::perform::{Played, perform};
 fn performed(case: Case, data: &[u8], memory: &mut [u8], sheet: &mut [u32]) -> Played {
     let state = case.state;
     let request = case.request;
-    let lent_bytes = of_bytes(case.memory, memory);
-    let lent_words = of_words(case.sheet, sheet);
+    let lent_bytes = case.memory.min(memory.len());
+    let lent_words = case.sheet.min(sheet.len());
     perform(
         state,
         &mut memory[..lent_bytes],
@@ -72,7 +71,7 @@ fn whole(
     if count < CASE_BYTES {
         return unreadable(out, at, line);
     }
-    let end = of_bytes(count, bytes);
+    let end = count.min(bytes.len());
     played(out, at, line, &bytes[..end], memory, sheet)
 }
 

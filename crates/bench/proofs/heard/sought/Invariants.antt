@@ -4,6 +4,3 @@ use Rattle.bench.proofs.heard.sought.Given as goal
 
 abbrev pub invariant-loop-steps : goal.invariant-loop-steps
 invariant-loop-steps g l = (length l.input ≡ length l.initial.input) × (length l.line ≡ length l.initial.line)
-
-abbrev pub decreases-loop-steps : goal.decreases-loop-steps
-decreases-loop-steps g l = l.steps

@@ -8,6 +8,3 @@ invariant-loop-steps g l =
     × (length l.line ≡ length l.initial.line)
     × (length l.memory ≡ length l.initial.memory)
     × (length l.sheet ≡ length l.initial.sheet)
-
-abbrev pub decreases-loop-steps : goal.decreases-loop-steps
-decreases-loop-steps g l = l.steps

@@ -9,6 +9,3 @@ invariant-loop-steps g l =
     × (length l.memory ≡ length l.initial.memory)
     × (length l.sheet ≡ length l.initial.sheet)
     × (length l.out ≡ length l.initial.out)
-
-abbrev pub decreases-loop-steps : goal.decreases-loop-steps
-decreases-loop-steps g l = l.steps
