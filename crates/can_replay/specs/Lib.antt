@@ -1,2 +1,3 @@
 -- What the contracts of a list of calls say beyond the rules.
 pub mod Replayed
+pub mod View

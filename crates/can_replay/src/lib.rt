@@ -1,4 +1,4 @@
-// A list of calls, made over lent arrays. The state is tested once, at the start: from a valid state every call leads to a valid one, so
+// A list of calls, made on a lent state. The state is tested once, at the start: from a valid state every call leads to a valid one, so
 // that no call has to test it again.
 //
 // An event has a number, at which its fields stand in arrays: its kind; its object or controller; its identifier, the mode asked for or a
@@ -8,4 +8,5 @@
 // As many events are made as every array has. Bytes that do not lie within the data are none.
 #![tactic(auto)]
 
+mod events;
 pub mod replay;
