@@ -11,39 +11,21 @@ fn word_of(i: usize) -> u32 {
 }
 
 pub fn fill_memory(memory: &mut [u8]) {
-    let mut i = 0;
-    while i < memory.len() {
-        memory[i] = byte_of(i);
-        i += 1;
+    for (i, byte) in memory.iter_mut().enumerate() {
+        *byte = byte_of(i);
     }
 }
 
 pub fn fill_sheet(sheet: &mut [u32]) {
-    let mut i = 0;
-    while i < sheet.len() {
-        sheet[i] = word_of(i);
-        i += 1;
+    for (i, word) in sheet.iter_mut().enumerate() {
+        *word = word_of(i);
     }
 }
 
 pub fn memory_same(memory: &[u8]) -> bool {
-    let mut i = 0;
-    while i < memory.len() {
-        if memory[i] != byte_of(i) {
-            return false;
-        }
-        i += 1;
-    }
-    true
+    memory.iter().enumerate().all(|(i, b)| *b == byte_of(i))
 }
 
 pub fn sheet_same(sheet: &[u32]) -> bool {
-    let mut i = 0;
-    while i < sheet.len() {
-        if sheet[i] != word_of(i) {
-            return false;
-        }
-        i += 1;
-    }
-    true
+    sheet.iter().enumerate().all(|(i, w)| *w == word_of(i))
 }

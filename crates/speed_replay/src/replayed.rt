@@ -23,18 +23,11 @@ fn all(state: State, ram: &mut [u8], sheet: &mut [u32], lists: u32) -> State {
     s
 }
 
-// A byte as a wider number.
-fn wide(byte: u8) -> u32 {
-    byte as u32
-}
-
 // The sum of the bytes, as far as a word holds it.
 fn sum(bytes: &[u8]) -> u32 {
     let mut total = 0u32;
-    let mut i = 0;
-    while i < bytes.len() {
-        total = std::num::wrapping_add_u32(total, wide(bytes[i]));
-        i += 1;
+    for byte in bytes {
+        total = total.wrapping_add(u32::from(*byte));
     }
     total
 }
@@ -42,10 +35,8 @@ fn sum(bytes: &[u8]) -> u32 {
 // The sum of the words, as far as a word holds it.
 fn words_sum(words: &[u32]) -> u32 {
     let mut total = 0u32;
-    let mut i = 0;
-    while i < words.len() {
-        total = std::num::wrapping_add_u32(total, words[i]);
-        i += 1;
+    for word in words {
+        total = total.wrapping_add(*word);
     }
     total
 }
