@@ -22,7 +22,7 @@ const RECEIVING: usize = 32;
 fn show_pool(stdout: &impl Print, setup: Setup, h: usize) {
     if h < OBJECTS {
         text(stdout, b" ");
-        number(stdout, setup.pools[h] as u64);
+        number(stdout, setup.owners.at(h).pool as u64);
     }
 }
 
