@@ -113,9 +113,10 @@ fn next(state: State, ram: &[u8], controller: u32) -> Played
     ensures { Performed (rules.next_to_send chip can_format (view state) ram.now controller)
         (verdict_reason result.verdict) (answer_of result.answer) (view result.state) result.notifications ram.now [] [] }
 {
+    let unchanged = state;
     let reply = can::next_to_send(state, ram, controller);
     Played {
-        state,
+        state: unchanged,
         verdict: can::verdict(reply),
         answer: next_answer(reply),
         notifications: 0,
