@@ -150,7 +150,7 @@ fn step<R: Read>(
 }
 
 // Whether nothing more is played.
-fn is_over(playing: Playing) -> bool {
+fn is_over(playing: &Playing) -> bool {
     !matches!(playing.heard.reader.status, Status::Open) | playing.night.desk.stuck
 }
 
@@ -173,7 +173,7 @@ fn all<R: Read>(
         playing = step(
             source, stdout, playing, input, line, memory, sheet, bytes, draft, out, book,
         );
-        if is_over(playing) {
+        if is_over(&playing) {
             break;
         }
     }
@@ -193,7 +193,7 @@ fn start(plain: bool) -> Playing {
 // Writes the totals of a night behind what stands in the output buffer, the frames that still wait, and the heading of the first list.
 fn summed_up(
     stdout: &impl Print,
-    state: State,
+    state: &State,
     desk: Desk,
     ram: &[u8],
     out: &mut [u8],
@@ -233,7 +233,7 @@ fn counted(stdout: &impl Print, desk: Desk, lines: u64, out: &mut [u8]) -> Desk 
 // The end of a night in plain words: its totals, the frames that still wait, and those that a bus-off took or a stop cancelled.
 fn told(
     stdout: &impl Print,
-    state: State,
+    state: &State,
     desk: Desk,
     ram: &[u8],
     out: &mut [u8],
@@ -256,7 +256,7 @@ fn finished(
     let state = night.state;
     let desk = night.desk;
     if desk.plain {
-        return told(stdout, state, desk, ram, out, book);
+        return told(stdout, &state, desk, ram, out, book);
     }
     counted(stdout, desk, lines, out)
 }
@@ -287,7 +287,7 @@ fn closed(
     }
     let own = RAM_SIZE.min(memory.len());
     let state = night.state;
-    book::count_left_over(book, state);
+    book::count_left_over(book, &state);
     let last = finished(stdout, night, lines, &memory[..own], out, book);
     judged(stderr, last, lines);
 }

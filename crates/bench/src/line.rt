@@ -20,7 +20,13 @@ use can_calls::perform::{Played, perform};
 use can_calls::request::Request;
 
 // The call as one line of words.
-fn in_numbers(desk: Desk, request: Request, played: Played, sheet: &[u32], out: &mut [u8]) -> Told {
+fn in_numbers(
+    desk: Desk,
+    request: Request,
+    played: &Played,
+    sheet: &[u32],
+    out: &mut [u8],
+) -> Told {
     let function = request.function;
     let verdict = played.verdict;
     let answer = played.answer;
@@ -63,11 +69,11 @@ fn performed(
 
 // What came of a call, in the night's style.
 fn told(
-    state: State,
+    state: &State,
     desk: Desk,
     wanted: Wanted,
     bytes: &[u8],
-    played: Played,
+    played: &Played,
     memory: &[u8],
     sheet: &[u32],
     out: &mut [u8],
@@ -108,11 +114,12 @@ fn call(
     out: &mut [u8],
     book: &mut [u64],
 ) -> Night {
-    let state = night.state;
     let desk = night.desk;
-    let request = wanted.request;
-    let played = performed(state, desk, request, bytes, memory, sheet);
-    let told = told(state, desk, wanted, bytes, played, memory, sheet, out, book);
+    let before = night.state;
+    let played = performed(night.state, desk, wanted.request, bytes, memory, sheet);
+    let told = told(
+        &before, desk, wanted, bytes, &played, memory, sheet, out, book,
+    );
     after(desk, played, told)
 }
 
@@ -177,7 +184,7 @@ fn show(desk: Desk, object: u32, memory: &[u8], out: &mut [u8]) -> usize {
     terse::bytes(out, desk.at, desk.line, b" show ", bytes)
 }
 
-fn state_told(state: State, desk: Desk, out: &mut [u8]) -> usize {
+fn state_told(state: &State, desk: Desk, out: &mut [u8]) -> usize {
     if desk.plain {
         return plain::state(out, desk.at, desk.line, state);
     }
@@ -359,7 +366,7 @@ fn stateless(
 
 // The configuration of the driver, written in a version into so much room of a buffer.
 fn config_into(
-    state: State,
+    state: &State,
     desk: Desk,
     version: u32,
     room: u32,
@@ -367,7 +374,7 @@ fn config_into(
     out: &mut [u8],
 ) -> usize {
     let count = (room as usize).min(buffer.len());
-    let setup = can::configuration_of(state);
+    let setup = can::configuration_of(*state);
     let reply = can::write_configuration(version, setup, &mut buffer[..count]);
     if desk.plain {
         return plain::config(out, desk.at, desk.line, state, version, room, reply);
@@ -375,7 +382,7 @@ fn config_into(
     terse::config(out, desk.at, desk.line, reply, buffer)
 }
 
-fn config(state: State, desk: Desk, version: u32, room: u32, out: &mut [u8]) -> usize {
+fn config(state: &State, desk: Desk, version: u32, room: u32, out: &mut [u8]) -> usize {
     let mut buffer = [0u8; LARGEST_ROOM];
     config_into(state, desk, version, room, &mut buffer, out)
 }
@@ -386,7 +393,7 @@ fn looks(command: Command) -> bool {
 }
 
 // What such a command is told as.
-fn looked(state: State, desk: Desk, command: Command, out: &mut [u8]) -> usize {
+fn looked(state: &State, desk: Desk, command: Command, out: &mut [u8]) -> usize {
     match command {
         Command::Config { version, room } => config(state, desk, version, room, out),
         _ => state_told(state, desk, out),
@@ -406,11 +413,17 @@ fn other(
     let desk = night.desk;
     if looks(command) {
         let mut told = desk;
-        told.at = looked(state, desk, command, out);
-        return Night { state, desk: told };
+        told.at = looked(&state, desk, command, out);
+        return Night {
+            state: night.state,
+            desk: told,
+        };
     }
     let desk = stateless(desk, command, line, memory, draft, out);
-    Night { state, desk }
+    Night {
+        state: night.state,
+        desk,
+    }
 }
 
 // A line that is no call: it is read again, so that what plays a call carries no command.

@@ -216,8 +216,8 @@ fn mailbox(out: &mut [u8], at: usize, m: Mailbox) -> usize {
     flag(out, end, b",", m.rx_full)
 }
 
-fn controllers(out: &mut [u8], at: usize, state: State) -> usize {
-    let core = state.core;
+fn controllers(out: &mut [u8], at: usize, state: &State) -> usize {
+    let core = &state.core;
     let mut end = at;
     for c in 0..limited(core.controller_count, can::CONTROLLERS) {
         end = controller(out, end, core.controllers.at(c), core.errors.at(c));
@@ -225,8 +225,8 @@ fn controllers(out: &mut [u8], at: usize, state: State) -> usize {
     end
 }
 
-fn mailboxes(out: &mut [u8], at: usize, state: State) -> usize {
-    let core = state.core;
+fn mailboxes(out: &mut [u8], at: usize, state: &State) -> usize {
+    let core = &state.core;
     let mut end = at;
     for h in 0..limited(core.object_count, can::OBJECTS) {
         end = mailbox(out, end, core.mailboxes.at(h));
@@ -235,7 +235,7 @@ fn mailboxes(out: &mut [u8], at: usize, state: State) -> usize {
 }
 
 // The state: `LINE state I C N`, then each controller and each object in use.
-pub fn state(out: &mut [u8], at: usize, line: u64, state: State) -> usize {
+pub fn state(out: &mut [u8], at: usize, line: u64, state: &State) -> usize {
     let mut end = put_decimal(out, at, line);
     end = flag(out, end, b" state ", state.core.initialised);
     end = numbered(out, end, b" ", state.core.controller_count as u64);

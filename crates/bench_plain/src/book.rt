@@ -127,7 +127,7 @@ pub fn set_controllers(book: &mut [u64], count: u64) {
 }
 
 // The controller of an object; one too large if there is no such object.
-pub fn owner(state: State, object: u32) -> usize {
+pub fn owner(state: &State, object: u32) -> usize {
     let h = object as usize;
     if h < OBJECTS {
         state.core.owners.at(h).controller as usize
@@ -144,7 +144,7 @@ fn count_if(book: &mut [u64], flag: bool, controller: usize, what: usize) {
 }
 
 // Counts the frames that wait in an object, or that nobody has read, when the night ends.
-pub fn count_left_over(book: &mut [u64], state: State) {
+pub fn count_left_over(book: &mut [u64], state: &State) {
     for h in 0..OBJECTS {
         let c = state.core.owners.at(h).controller as usize;
         let m = state.core.mailboxes.at(h);
@@ -154,7 +154,7 @@ pub fn count_left_over(book: &mut [u64], state: State) {
 }
 
 // Counts the frames that a DeInit drops: all that nobody has read.
-pub fn count_dropped(book: &mut [u64], state: State) {
+pub fn count_dropped(book: &mut [u64], state: &State) {
     for h in 0..OBJECTS {
         let c = state.core.owners.at(h).controller as usize;
         count_if(book, state.core.mailboxes.at(h).rx_full, c, DROPPED);

@@ -8,25 +8,18 @@ use can_config::record::RECORD_SIZE;
 use core_places::range::limited;
 
 // How many objects are in use.
-fn in_use(state: State) -> usize {
+fn in_use(state: &State) -> usize {
     limited(state.core.object_count, OBJECTS)
 }
 
 // An object as its line in a script. A pool is said where it is not the object's own number.
-fn object(out: &mut [u8], at: usize, state: State, h: usize) -> usize {
+fn object(out: &mut [u8], at: usize, state: &State, h: usize) -> usize {
     let o = state.core.owners.at(h);
     let s = state.settings.at(h);
     let controller = o.controller as u64;
     let payload = s.payload as u64;
     if o.receiving {
-        return configs::receiving(
-            out,
-            at,
-            controller,
-            payload,
-            s.code as u64,
-            s.mask as u64,
-        );
+        return configs::receiving(out, at, controller, payload, s.code as u64, s.mask as u64);
     }
     let padding = s.padding as u64;
     let pool = o.pool as usize;
@@ -37,7 +30,7 @@ fn object(out: &mut [u8], at: usize, state: State, h: usize) -> usize {
 }
 
 // All of it.
-pub fn shown(out: &mut [u8], at: usize, state: State) -> usize {
+pub fn shown(out: &mut [u8], at: usize, state: &State) -> usize {
     let mut end = configs::controllers(out, at, state.core.controller_count as u64);
     for h in 0..in_use(state) {
         end = object(out, end, state, h);
@@ -46,7 +39,7 @@ pub fn shown(out: &mut [u8], at: usize, state: State) -> usize {
 }
 
 // Tells of the first object that is in a pool that is not its own number, where there is one.
-fn in_a_pool(out: &mut [u8], at: usize, state: State) -> usize {
+fn in_a_pool(out: &mut [u8], at: usize, state: &State) -> usize {
     for h in 0..in_use(state) {
         let o = state.core.owners.at(h);
         if !o.receiving & (o.pool as usize != h) {
@@ -57,7 +50,7 @@ fn in_a_pool(out: &mut [u8], at: usize, state: State) -> usize {
 }
 
 // 9: there is no such version, there is no configuration yet, or version 1 is to say a pool.
-fn cannot_say(out: &mut [u8], at: usize, state: State, version: u32) -> usize {
+fn cannot_say(out: &mut [u8], at: usize, state: &State, version: u32) -> usize {
     if (version != 1) & (version != 2) {
         return configs::unknown_version(out, at, version as u64);
     }
@@ -71,7 +64,7 @@ fn cannot_say(out: &mut [u8], at: usize, state: State, version: u32) -> usize {
 pub fn refused(
     out: &mut [u8],
     at: usize,
-    state: State,
+    state: &State,
     version: u32,
     room: u32,
     reason: Rejection,
@@ -79,7 +72,8 @@ pub fn refused(
     let end = refusals::verdict(out, at, reason);
     match reason {
         Rejection::SheetTooShort => {
-            let size = HEADER_SIZE + RECORD_SIZE * in_use(state);
+            let count = limited(state.core.object_count, OBJECTS);
+            let size = HEADER_SIZE + RECORD_SIZE * count;
             configs::short_room(out, end, room as u64, size as u64)
         }
         _ => cannot_say(out, end, state, version),

@@ -6,7 +6,7 @@ use can_calls::answer::Answer;
 use can_calls::request::{Function, Request};
 
 // An accepted write in the book: whose it is, and its line.
-fn note_written(book: &mut [u64], state: State, object: u32, line: u64) {
+fn note_written(book: &mut [u64], state: &State, object: u32, line: u64) {
     set_origin(book, object, line);
     count(book, owner(state, object), book::WRITTEN);
 }
@@ -25,7 +25,7 @@ fn note_stored(book: &mut [u64], controller: u32, object: u32, line: u64) {
 }
 
 // What a call answers, in the book.
-pub fn note_answer(book: &mut [u64], state: State, request: Request, answer: Answer, line: u64) {
+pub fn note_answer(book: &mut [u64], state: &State, request: Request, answer: Answer, line: u64) {
     match answer {
         Answer::TakenBy(h) => note_written(book, state, h, line),
         Answer::Stored(h) => note_stored(book, request.controller, h, line),
@@ -36,7 +36,7 @@ pub fn note_answer(book: &mut [u64], state: State, request: Request, answer: Ans
 }
 
 // A DeInit that is accepted drops all frames that nobody has read. One that is refused leaves the driver initialised.
-fn note_dropped(book: &mut [u64], before: State, initialised: bool) {
+fn note_dropped(book: &mut [u64], before: &State, initialised: bool) {
     if initialised {
         return;
     }
@@ -54,8 +54,8 @@ fn note_sent(book: &mut [u64], object: u32, line: u64, accepted: bool) {
 // A sent event, an Init and a DeInit.
 pub fn note_call(
     book: &mut [u64],
-    before: State,
-    next: State,
+    before: &State,
+    next: &State,
     request: Request,
     line: u64,
     accepted: bool,

@@ -16,7 +16,7 @@ fn entry(
     at: usize,
     book: &[u64],
     ram: &[u8],
-    state: State,
+    state: &State,
     n: Notification,
     line: u64,
 ) -> usize {
@@ -32,7 +32,7 @@ pub fn taken(
     out: &mut [u8],
     book: &[u64],
     ram: &[u8],
-    state: State,
+    state: &State,
     n: Notification,
     line: u64,
 ) -> Lists {
@@ -51,7 +51,7 @@ pub fn cancelled(
     out: &mut [u8],
     book: &[u64],
     ram: &[u8],
-    state: State,
+    state: &State,
     n: Notification,
     line: u64,
 ) -> Lists {

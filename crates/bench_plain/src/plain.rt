@@ -17,7 +17,7 @@ use can_calls::request::{Function, Request};
 const ANSWER: usize = 66;
 
 // Whether a controller is off the bus.
-fn is_off(state: State, controller: u32) -> bool {
+fn is_off(state: &State, controller: u32) -> bool {
     state.core.controllers.at(controller as usize).bus_off
 }
 
@@ -51,7 +51,7 @@ fn accepted(
     at: usize,
     request: Request,
     answer: Answer,
-    next: State,
+    next: &State,
     told: usize,
     ram: &[u8],
 ) -> usize {
@@ -72,20 +72,25 @@ fn accepted(
 fn replied(
     out: &mut [u8],
     at: usize,
-    state: State,
+    state: &State,
     desk: Desk,
     book: &[u64],
     request: Request,
     length: u32,
     bytes: &[u8],
-    played: Played,
+    played: &Played,
     ram: &[u8],
 ) -> usize {
-    let verdict = played.verdict;
-    let next = played.state;
-    let answer = played.answer;
-    match verdict {
-        Ok(()) => accepted(out, at, request, answer, next, played.notifications, ram),
+    match played.verdict {
+        Ok(()) => accepted(
+            out,
+            at,
+            request,
+            played.answer,
+            &played.state,
+            played.notifications,
+            ram,
+        ),
         Err(reason) => refused::call(out, at, state, desk, book, request, length, bytes, reason),
     }
 }
@@ -94,13 +99,13 @@ fn replied(
 pub fn call(
     out: &mut [u8],
     at: usize,
-    state: State,
+    state: &State,
     desk: Desk,
     book: &[u64],
     request: Request,
     length: u32,
     bytes: &[u8],
-    played: Played,
+    played: &Played,
     ram: &[u8],
 ) -> usize {
     let mut end = lines::number(out, at, desk.line);
@@ -117,7 +122,7 @@ pub fn config(
     out: &mut [u8],
     at: usize,
     line: u64,
-    state: State,
+    state: &State,
     version: u32,
     room: u32,
     reply: ConfigReply,
@@ -153,7 +158,7 @@ pub fn show(out: &mut [u8], at: usize, line: u64, object: u32, bytes: &[u8]) -> 
 }
 
 // The driver state.
-pub fn state(out: &mut [u8], at: usize, line: u64, state: State) -> usize {
+pub fn state(out: &mut [u8], at: usize, line: u64, state: &State) -> usize {
     let mut end = lines::state(out, at, line);
     end = to_column(out, end, at, ANSWER);
     end = state::counts(out, end, state);

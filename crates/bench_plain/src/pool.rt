@@ -5,18 +5,18 @@ use can_calls::request::{Function, Request};
 use core_places::range::limited;
 
 // How many objects are in use.
-fn in_use(state: State) -> usize {
+fn in_use(state: &State) -> usize {
     limited(state.core.object_count, OBJECTS)
 }
 
 // Whether object i is a member of a pool.
-fn is_member(state: State, pool: u8, i: usize) -> bool {
+fn is_member(state: &State, pool: u8, i: usize) -> bool {
     let o = state.core.owners.at(i);
     !o.receiving & (o.pool == pool)
 }
 
 // The lowest member of a pool; OBJECTS where it has none.
-fn lowest(state: State, pool: u8) -> usize {
+fn lowest(state: &State, pool: u8) -> usize {
     for i in 0..in_use(state) {
         if is_member(state, pool, i) {
             return i;
@@ -26,7 +26,7 @@ fn lowest(state: State, pool: u8) -> usize {
 }
 
 // Whether a pool has a member beside object h.
-fn has_other(state: State, pool: u8, h: usize) -> bool {
+fn has_other(state: &State, pool: u8, h: usize) -> bool {
     for i in 0..in_use(state) {
         if is_member(state, pool, i) & (i != h) {
             return true;
@@ -51,13 +51,13 @@ fn is_pools(reason: Rejection) -> bool {
 }
 
 // Whether an object sends in a pool with another one.
-fn shares(state: State, h: usize) -> bool {
+fn shares(state: &State, h: usize) -> bool {
     let pool = state.core.owners.at(h).pool;
     (h < in_use(state)) & is_member(state, pool, h) & has_other(state, pool, h)
 }
 
 // Whether such a refusal is told by the pool.
-pub fn is_told(state: State, request: Request, reason: Rejection) -> bool {
+pub fn is_told(state: &State, request: Request, reason: Rejection) -> bool {
     let function = request.function;
     let shared = shares(state, request.object as usize);
     is_write(function) & is_pools(reason) & shared
@@ -67,7 +67,7 @@ pub fn is_told(state: State, request: Request, reason: Rejection) -> bool {
 pub fn told(
     out: &mut [u8],
     at: usize,
-    state: State,
+    state: &State,
     object: u32,
     reason: Rejection,
     line: u64,

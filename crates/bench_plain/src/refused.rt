@@ -8,17 +8,17 @@ use can::{RAM_SIZE, Rejection, SHEET_SIZE, State};
 use can_calls::request::{Function, Request};
 
 // The controller of an object; 0 if there is no such object.
-fn controller_of(state: State, object: u32) -> u64 {
+fn controller_of(state: &State, object: u32) -> u64 {
     state.core.owners.at(object as usize).controller as u64
 }
 
 // The mode of a controller; 0 if there is no such controller.
-fn mode_of(state: State, controller: u32) -> u64 {
+fn mode_of(state: &State, controller: u32) -> u64 {
     state.core.controllers.at(controller as usize).mode as u64
 }
 
 // The controller that a call names, or that of its object.
-fn controller_named(state: State, request: Request) -> u64 {
+fn controller_named(state: &State, request: Request) -> u64 {
     let function = request.function;
     match function {
         Function::Write | Function::Sent => controller_of(state, request.object),
@@ -31,7 +31,7 @@ fn numbers(
     reason: Rejection,
     request: Request,
     length: u32,
-    state: State,
+    state: &State,
     desk: Desk,
     line: u64,
 ) -> [u64; NUMBERS] {
@@ -70,7 +70,7 @@ fn is_error_count(reason: Rejection) -> bool {
 pub fn call(
     out: &mut [u8],
     at: usize,
-    state: State,
+    state: &State,
     desk: Desk,
     book: &[u64],
     request: Request,

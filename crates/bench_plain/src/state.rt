@@ -10,7 +10,7 @@ use core_places::owner::Owner;
 use core_places::range::limited;
 
 // Whether the driver is initialised, and how much is configured.
-pub fn counts(out: &mut [u8], at: usize, state: State) -> usize {
+pub fn counts(out: &mut [u8], at: usize, state: &State) -> usize {
     let controllers = state.core.controller_count as u64;
     states::counts(
         out,
@@ -86,8 +86,8 @@ fn object(out: &mut [u8], at: usize, h: u64, o: Owner, m: Mailbox, s: Settings) 
 }
 
 // Each configured controller.
-pub fn controllers(out: &mut [u8], at: usize, state: State) -> usize {
-    let core = state.core;
+pub fn controllers(out: &mut [u8], at: usize, state: &State) -> usize {
+    let core = &state.core;
     let mut end = at;
     for c in 0..limited(core.controller_count, can::CONTROLLERS) {
         end = controller(
@@ -102,8 +102,8 @@ pub fn controllers(out: &mut [u8], at: usize, state: State) -> usize {
 }
 
 // Each configured object.
-pub fn objects(out: &mut [u8], at: usize, state: State) -> usize {
-    let core = state.core;
+pub fn objects(out: &mut [u8], at: usize, state: &State) -> usize {
+    let core = &state.core;
     let mut end = at;
     for h in 0..limited(core.object_count, can::OBJECTS) {
         end = object(

@@ -12,10 +12,9 @@ pub struct Told {
     pub lists: Lists,
 }
 
-// The poll that the notifications are of: its line, whether it is the bus-off poll, and the state before it.
+// The poll that the notifications are of: its line, and whether it is the bus-off poll.
 #[derive(Clone, Copy)]
 pub struct Poll {
-    pub state: State,
     pub line: u64,
     pub by_bus_off: bool,
 }
@@ -34,13 +33,12 @@ fn counts_as(kind: u32, by_bus_off: bool) -> usize {
     book::CANCELLED
 }
 
-// Counts a frame that is confirmed, cancelled, taken or read.
-fn counted(book: &mut [u64], poll: Poll, n: Notification) {
+// Counts a frame that is confirmed, cancelled, taken or read; the state is that before the poll.
+fn counted(book: &mut [u64], state: &State, poll: Poll, n: Notification) {
     let kind = n.kind;
     if (kind != CONFIRMED) & (kind != RECEIVED) & (kind != CANCELLED) {
         return;
     }
-    let state = poll.state;
     count(
         book,
         owner(state, n.place),
@@ -54,13 +52,13 @@ fn kept(
     out: &mut [u8],
     book: &[u64],
     ram: &[u8],
+    state: &State,
     poll: Poll,
     n: Notification,
 ) -> Lists {
     if n.kind != CANCELLED {
         return lists;
     }
-    let state = poll.state;
     if poll.by_bus_off {
         return listed::taken(lists, out, book, ram, state, n, poll.line);
     }
@@ -72,17 +70,14 @@ fn one(
     out: &mut [u8],
     book: &mut [u64],
     ram: &[u8],
+    state: &State,
     poll: Poll,
     n: Notification,
 ) -> Told {
-    counted(book, poll, n);
+    counted(book, state, poll, n);
     let at = notifications::told(out, before.at, book, ram, n, poll.by_bus_off);
-    let kept_before = before.lists;
-    let lists = kept(kept_before, out, book, ram, poll, n);
-    Told {
-        at: at,
-        lists: lists,
-    }
+    let lists = kept(before.lists, out, book, ram, state, poll, n);
+    Told { at, lists }
 }
 
 // The first count notifications on the sheet.
@@ -91,13 +86,14 @@ pub fn all(
     out: &mut [u8],
     book: &mut [u64],
     ram: &[u8],
+    state: &State,
     poll: Poll,
     sheet: &[u32],
     count: usize,
 ) -> Told {
     let mut told = before;
     for i in 0..count {
-        told = one(told, out, book, ram, poll, notification_at(sheet, i));
+        told = one(told, out, book, ram, state, poll, notification_at(sheet, i));
     }
     told
 }

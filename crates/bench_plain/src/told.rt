@@ -9,12 +9,12 @@ use can_calls::request::{Request, is_bus_off_poll};
 
 // The call and its notifications in words; bytes are those that it was given.
 pub fn in_words(
-    state: State,
+    state: &State,
     desk: Desk,
     request: Request,
     length: u32,
     bytes: &[u8],
-    played: Played,
+    played: &Played,
     ram: &[u8],
     sheet: &[u32],
     out: &mut [u8],
@@ -23,20 +23,17 @@ pub fn in_words(
     let at = plain::call(
         out, desk.at, state, desk, book, request, length, bytes, played, ram,
     );
-    let next = played.state;
-    let answer = played.answer;
-    let verdict = played.verdict;
-    note_call(book, state, next, request, desk.line, verdict.is_ok());
-    note_answer(book, state, request, answer, desk.line);
-    let lists = desk.lists;
+    let accepted = played.verdict.is_ok();
+    note_call(book, state, &played.state, request, desk.line, accepted);
+    note_answer(book, state, request, played.answer, desk.line);
     let start = Told {
-        at: at,
-        lists: lists,
+        at,
+        lists: desk.lists,
     };
     let poll = Poll {
-        state: state,
         line: desk.line,
         by_bus_off: is_bus_off_poll(request),
     };
-    tell::all(start, out, book, ram, poll, sheet, played.notifications)
+    let count = played.notifications;
+    tell::all(start, out, book, ram, state, poll, sheet, count)
 }

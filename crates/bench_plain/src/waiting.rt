@@ -6,9 +6,9 @@ use bench_messages::{frames, totals};
 use can::{OBJECTS, State};
 
 // The frame of an object, where one waits.
-fn one_of(out: &mut [u8], at: usize, state: State, book: &[u64], ram: &[u8], h: usize) -> usize {
+fn one_of(out: &mut [u8], at: usize, state: &State, book: &[u64], ram: &[u8], h: usize) -> usize {
     let m = state.core.mailboxes.at(h);
-    if !m.tx_pending {
+    if (OBJECTS <= h) | !m.tx_pending {
         return at;
     }
     let object = h as u32;
@@ -22,7 +22,7 @@ fn one_of(out: &mut [u8], at: usize, state: State, book: &[u64], ram: &[u8], h: 
 }
 
 // All of them, by object.
-fn each(out: &mut [u8], at: usize, state: State, book: &[u64], ram: &[u8]) -> usize {
+fn each(out: &mut [u8], at: usize, state: &State, book: &[u64], ram: &[u8]) -> usize {
     let mut end = at;
     for h in 0..OBJECTS {
         end = one_of(out, end, state, book, ram, h);
@@ -31,7 +31,7 @@ fn each(out: &mut [u8], at: usize, state: State, book: &[u64], ram: &[u8]) -> us
 }
 
 // The list of them, where there is one.
-pub fn list(out: &mut [u8], at: usize, state: State, book: &[u64], ram: &[u8]) -> usize {
+pub fn list(out: &mut [u8], at: usize, state: &State, book: &[u64], ram: &[u8]) -> usize {
     if total(book, book::WAITING) == 0 {
         return at;
     }

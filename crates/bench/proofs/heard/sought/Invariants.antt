@@ -2,5 +2,5 @@
 use Rattle.std.proofs.Common.{◌≡◌, length}
 use Rattle.bench.proofs.heard.sought.Given as goal
 
-abbrev pub invariant-loop-steps : goal.invariant-loop-steps
-invariant-loop-steps g l = (length l.input ≡ length l.initial.input) × (length l.line ≡ length l.initial.line)
+abbrev pub invariant-loop : goal.invariant-loop
+invariant-loop g l = (length l.input ≡ length l.initial.input) × (length l.line ≡ length l.initial.line)

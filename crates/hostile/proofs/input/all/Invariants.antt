@@ -2,8 +2,8 @@
 use Rattle.std.proofs.Common.{◌≡◌, length}
 use Rattle.hostile.proofs.input.all.Given as goal
 
-abbrev pub invariant-loop-steps : goal.invariant-loop-steps
-invariant-loop-steps g l =
+abbrev pub invariant-loop : goal.invariant-loop
+invariant-loop g l =
     (length l.input ≡ length l.initial.input)
     × (length l.line ≡ length l.initial.line)
     × (length l.memory ≡ length l.initial.memory)
