@@ -9,9 +9,8 @@ use bench_words::split::word;
 use can_calls::perform::{Played, perform};
 
 // The call, with as much of the memory and the sheet as the case lends.
-fn performed(case: Case, data: &[u8], memory: &mut [u8], sheet: &mut [u32]) -> Played {
+fn performed(case: &Case, data: &[u8], memory: &mut [u8], sheet: &mut [u32]) -> Played {
     let state = case.state;
-    let request = case.request;
     let lent_bytes = case.memory.min(memory.len());
     let lent_words = case.sheet.min(sheet.len());
     perform(
@@ -19,7 +18,7 @@ fn performed(case: Case, data: &[u8], memory: &mut [u8], sheet: &mut [u32]) -> P
         &mut memory[..lent_bytes],
         &mut sheet[..lent_words],
         data,
-        request,
+        case.request,
     )
 }
 
@@ -28,17 +27,14 @@ fn told(
     out: &mut [u8],
     at: usize,
     line: u64,
-    case: Case,
-    played: Played,
+    case: &Case,
+    played: &Played,
     memory: &[u8],
     sheet: &[u32],
 ) -> usize {
-    let before = case.state;
-    let next = played.state;
-    let verdict = played.verdict;
-    let answer = played.answer;
-    let end = answered(out, at, line, verdict, answer, played.notifications);
-    let state_same = same(before, next);
+    let count = played.notifications;
+    let end = answered(out, at, line, played.verdict, played.answer, count);
+    let state_same = same(&case.state, &played.state);
     changes(out, end, state_same, memory_same(memory), sheet_same(sheet))
 }
 
@@ -54,8 +50,8 @@ fn played(
     let case = read_case(bytes);
     fill_memory(memory);
     fill_sheet(sheet);
-    let played = performed(case, after(bytes, CASE_BYTES), memory, sheet);
-    told(out, at, line, case, played, memory, sheet)
+    let played = performed(&case, after(bytes, CASE_BYTES), memory, sheet);
+    told(out, at, line, &case, &played, memory, sheet)
 }
 
 // The first count bytes are enough for a case, or they are none.
