@@ -15,10 +15,10 @@ unfolding digit
 digit_low b = grind (arith, nat_tests)
 
 -- what `sayable` tells of a number
-said : (n : ℕ) {v : ℕ} → Some v ≡ sayable n → (v ≡ n) × (n ≤ largest)
+pub said : (n : ℕ) {v : ℕ} → Some v ≡ sayable n → (v ≡ n) × (n ≤ largest)
 said n e = grind (arith, nat_tests)
 
-unsaid : (n : ℕ) → None ≡ sayable n → largest < n
+pub unsaid : (n : ℕ) → None ≡ sayable n → largest < n
 unsaid n e = grind (arith, nat_tests)
 
 -- A loop is at digit i: with the digits that are left, v comes to what all of them spell.

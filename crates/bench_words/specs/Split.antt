@@ -3,6 +3,8 @@ use Rattle.std.specs.Prelude.{ℕ, zero, suc, ◌+◌, ◌-◌, Bool, not, ◌&&
 use Rattle.std.specs.List.{prefix_len}
 use Rattle.rules.specs.Bytes.{part}
 use Rattle.bench_words.specs.declared.split.Span.{Span}
+use Rattle.bench_words.specs.declared.split.Run.{Run}
+use Rattle.bench_words.specs.declared.split.Run.TheVariants.{Blanks, Word, Text}
 
 -- a space, a tab or a comma
 abbrev pub is_blank : ℕ → Bool
@@ -11,6 +13,16 @@ is_blank b = eqb b 32 || eqb b 9 || eqb b 44
 -- any other byte, but for #, with which a comment begins
 abbrev pub in_word : ℕ → Bool
 in_word b = not (is_blank b) && not (eqb b 35)
+
+-- any byte but a bar, which ends one of several texts in a row
+abbrev pub in_text : ℕ → Bool
+in_text b = not (eqb b 124)
+
+-- the bytes that belong to a run
+abbrev pub in_run : Run → ℕ → Bool
+in_run Blanks b = is_blank b
+in_run Word b = in_word b
+in_run Text b = in_text b
 
 -- the first word at or after a position: behind the blanks there, up to a blank, a comment or the line's end
 abbrev pub word_from : List ℕ → ℕ → Span

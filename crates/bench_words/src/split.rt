@@ -1,8 +1,8 @@
 // The words of a line.
-ghost use Rattle.std.specs.Prelude.{◌≡◌, ◌-◌, ◌≤◌, length, drop};
+ghost use Rattle.std.specs.Prelude.{◌≡◌, ◌+◌, ◌-◌, ◌≤◌, length, drop};
 ghost use Rattle.std.specs.List.{prefix_len};
 ghost use Rattle.rules.specs.Bytes.{part};
-ghost use Rattle.bench_words.specs.Split.{is_blank, in_word, next_word, word_at, word, first, after};
+ghost use Rattle.bench_words.specs.Split.{is_blank, in_word, in_run, next_word, word_at, word, first, after};
 
 // Where a word stands: from start up to, not including, end. An empty one says that there is no further word; it has a place too, at which
 // `word_at` and `after` go on.
@@ -10,6 +10,14 @@ ghost use Rattle.bench_words.specs.Split.{is_blank, in_word, next_word, word_at,
 pub struct Span {
     pub start: usize,
     pub end: usize,
+}
+
+// Bytes that belong together: blanks, those of a word, and those of one of several texts in a row.
+#[derive(Clone, Copy)]
+pub enum Run {
+    Blanks,
+    Word,
+    Text,
 }
 
 // Spaces, tabs and commas separate words.
@@ -33,28 +41,38 @@ fn rest(line: &[u8], at: usize) -> &[u8]
     line.get(at..).unwrap_or(&[])
 }
 
-// How many blanks stand at the start of a text.
-fn blanks(text: &[u8]) -> usize
-    ensures number { result ≡ prefix_len is_blank text.now }
-    ensures within { result ≤ length text.now }
+// A comment ends a word, as a blank does; a bar ends a text.
+fn belongs(run: Run, b: u8) -> bool
+    ensures { result ≡ in_run run b }
 {
-    text.iter().take_while(|b| is_blank(**b)).count()
+    match run {
+        Run::Blanks => is_blank(b),
+        Run::Word => in_word(b),
+        Run::Text => b != b'|',
+    }
 }
 
-// How long the word is at the start of a text.
-fn word_length(text: &[u8]) -> usize
-    ensures number { result ≡ prefix_len in_word text.now }
+// How long the run is at the start of a text.
+fn run_length(text: &[u8], run: Run) -> usize
+    ensures number { result ≡ prefix_len (in_run run) text.now }
     ensures within { result ≤ length text.now }
 {
-    text.iter().take_while(|b| in_word(**b)).count()
+    text.iter().take_while(|b| belongs(run, **b)).count()
+}
+
+// The position after the run at a position.
+pub fn skip(line: &[u8], at: usize, run: Run) -> usize
+    ensures { result ≡ at + prefix_len (in_run run) (drop at line.now) }
+{
+    at + run_length(rest(line, at), run)
 }
 
 // The first word at or after a position.
 pub fn next_word(line: &[u8], at: usize) -> Span
     ensures { result ≡ next_word line.now at }
 {
-    let start = at + blanks(rest(line, at));
-    let end = start + word_length(rest(line, start));
+    let start = skip(line, at, Run::Blanks);
+    let end = skip(line, start, Run::Word);
     Span { start, end }
 }
 

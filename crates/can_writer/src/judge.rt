@@ -15,21 +15,27 @@ use can_state::agreement::pools_agree;
 use can_state::settings::settings_places_valid;
 use core_validity::counts::counts_valid;
 
-// Whether Init accepts the configuration.
+// Whether Init accepts the configuration. Where the counts are not valid no place is looked at. Each list is as long as its type says, which its
+// own `len` tells.
 fn configuration_valid(setup: &Setup) -> bool
     ensures valid { result ≡ configuration_valid chip can_format (view_setup setup.now) }
     ensures places { (length setup.now.owners ≡ chip.objects) × (length setup.now.settings ≡ chip.objects) }
 {
+    let _ = setup.owners.len();
+    let _ = setup.settings.len();
     let counted = counts_valid(
         CONTROLLERS,
         OBJECTS,
         setup.controller_count,
         setup.object_count,
     );
+    if !counted {
+        return false;
+    }
     let owned = owners_valid(setup.controller_count, setup.object_count, &setup.owners);
     let suited = settings_places_valid(setup.object_count, &setup.owners, &setup.settings);
     let pooled = pools_agree(&setup.owners, &setup.settings, setup.object_count);
-    counted & owned & suited & pooled
+    owned & suited & pooled
 }
 
 // Whether the version is known and says the configuration. No record is looked at before it is known how many there are.

@@ -1,7 +1,7 @@
 -- The tests together are the rules' test; the counts that are in use matter only where they are valid.
 use Prim.Native.Nat.{ℕ, ◌≤◌, min}
 use mathlib.Core.Path.{◌≡◌, sym, ap, ◌∙◌}
-use mathlib.Core.Bool.{Bool, true, ◌&&◌, and_assoc}
+use mathlib.Core.Bool.{Bool, true, ◌&&◌}
 use native.Mathlib.Omega.{arith}
 use lib.Dec.{leb}
 use borrow.Author.Tests.{leb-true}
@@ -10,7 +10,7 @@ use Rattle.rules.specs.Core.{counts_valid, owner_place_valid}
 use Rattle.rules.specs.Configuration.{settings_agreed}
 use Rattle.rules.specs.Can.{can_format}
 use Rattle.rules.specs.Chip.{chip}
-use Rattle.laws.proofs.Tests.{right, under}
+use Rattle.laws.proofs.Tests.{right}
 use Rattle.core_validity.specs.Pools.{pools_valid}
 use Rattle.core_validity.proofs.Laws.{and_pairs}
 use Rattle.can_state.specs.Tests.{settings_places_valid, pools_agreed}
@@ -33,8 +33,8 @@ returns-clause-valid c =
     let within : n ≤ chip.objects = leb-true n chip.objects (right (leb 1 k && leb k chip.controllers) (leb n chip.objects) t) in
     let same : min n chip.objects ≡ n = omega arith in
     ap (λ (m : ℕ). pools_agreed m os ss) same in
-    rw (c.counts_valid-counted.ensures, c.owners_valid-owned.ensures.valid, c.settings_places_valid-suited.ensures.valid, c.pools_agree-pooled.ensures)
-    (ap (λ (t : Bool). t && pools_agreed (min n chip.objects) os ss) (and_assoc counted owned suited)
-    ∙ and_assoc counted (owned && suited) (pools_agreed (min n chip.objects) os ss)
-    ∙ under counted (λ t. ap (λ (p : Bool). owned && suited && p) (all t) ∙ and_pairs owned suited pooled agreed)
-    ∙ sym (and_assoc counted (owned && pooled) (suited && agreed)))
+    let t : counted ≡ true = sym c.counts_valid-counted.ensures ∙ c.if-not-counted.false in
+    rw (c.owners_valid-owned.ensures.valid, c.settings_places_valid-suited.ensures.valid, c.pools_agree-pooled.ensures)
+    (ap (λ (p : Bool). owned && suited && p) (all t)
+    ∙ and_pairs owned suited pooled agreed
+    ∙ ap (λ (b : Bool). b && (owned && pooled) && (suited && agreed)) (sym t))
