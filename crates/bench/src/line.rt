@@ -446,10 +446,7 @@ fn no_call(
 
 // What a line asks for. The bytes that it brings are put into the buffer.
 fn asks(line: &[u8], bytes: &mut [u8; MOST_BYTES]) -> Asks {
-    match bench_script::command::read(line, bytes) {
-        Ok(command) => request_of(command),
-        Err(_) => Asks::Other,
-    }
+    request_of(bench_script::command::read(line, bytes))
 }
 
 // Plays one line, which has no line end any more.

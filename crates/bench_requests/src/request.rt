@@ -1,8 +1,9 @@
-// What a command asks for.
+// What a line of a script asks for.
 ghost use Rattle.std.specs.Prelude.{◌≡◌};
 ghost use Rattle.bench_requests.specs.Request as requests;
 
 use bench_script::command::Command;
+use bench_words::reading::Trouble;
 use can_calls::request::{Function, Request};
 
 // The call that a command wants, and how many bytes its line brings for it.
@@ -44,7 +45,7 @@ fn call(
 
 // The two error counts of a controller.
 fn counts(controller: u32, transmit: u32, receive: u32) -> Asks
-    ensures { result ≡ requests.request_of (Command.Errors controller transmit receive) }
+    ensures { result ≡ requests.request_of_command (Command.Errors controller transmit receive) }
 {
     let request = Request {
         function: Function::ErrorCounts,
@@ -73,8 +74,8 @@ pub fn init(length: u32) -> Wanted
 }
 
 // What a function does not take is 0.
-pub fn request_of(command: Command) -> Asks
-    ensures { result ≡ requests.request_of command }
+fn request_of_command(command: Command) -> Asks
+    ensures { result ≡ requests.request_of_command command }
 {
     match command {
         Command::Init { length } => Asks::Call(init(length)),
@@ -119,5 +120,15 @@ pub fn request_of(command: Command) -> Asks
         | Command::Send { .. }
         | Command::SendInPool { .. }
         | Command::Receive { .. } => Asks::Other,
+    }
+}
+
+// What a line asks for, by what reading it answers.
+pub fn request_of(read: Result<Command, Trouble>) -> Asks
+    ensures { result ≡ requests.request_of read }
+{
+    match read {
+        Ok(command) => request_of_command(command),
+        Err(_) => Asks::Other,
     }
 }
