@@ -1,14 +1,14 @@
 // Which object an arriving frame goes to: in one pass, the best among the empty ones and the best among the full ones.
-ghost use Rattle.std.specs.Prelude.{◌≡◌, List, ℕ, ◌≤◌};
+ghost use Rattle.std.specs.Prelude.{List, ℕ, ◌≤◌, ◌^◌, max};
 ghost use Rattle.rules.specs.Can.{filter_accepts};
-ghost use Rattle.rules.specs.Chip.{chip};
-ghost use Rattle.can_state.specs.View.{view};
+ghost use Rattle.can_state.specs.View.{state_of};
 ghost use Rattle.can_arrivals.specs.Choice.{Compared, Chosen};
 
 use can_frame::filter::filter_accepts;
 use can_state::settings::Settings;
-use can_state::state::State;
+use can_state::settings_list::SettingsList;
 use core_events::pick::{Picked, better};
+use core_places::places::CorePlaces;
 
 // The best object so far among the empty ones, and among the full ones, where there is one.
 #[derive(Clone, Copy)]
@@ -40,20 +40,28 @@ fn compare(best: Choice, identifier: u32, object: u32, full: bool, s: Settings) 
 
 // The best objects in use for a frame with this identifier, whatever its data. Owner and kind are asked before the filter: most objects belong
 // to another controller or send, and then nothing more is read of them.
-pub fn choose(state: &State, controller: usize, identifier: u32) -> Choice
-    requires { state.now.core.object_count ≤ chip.objects }
-    ensures { (sdu : List ℕ) → Chosen (view state.now) controller (record { identifier = identifier; sdu = sdu }) result }
+pub fn choose<K: CorePlaces, S: SettingsList>(
+    core: &K,
+    settings: &S,
+    controller: usize,
+    identifier: u32,
+) -> Choice
+    requires { ((K.core core.now).object_count ≤ 2 ^ 32)
+        × ((K.core core.now).object_count ≤ max (K.objects core.now) (K.readable_objects core.now))
+        × ((K.core core.now).object_count ≤ S.readable settings.now) }
+    ensures { (sdu : List ℕ)
+        → Chosen (state_of (K.core core.now) (S.places settings.now)) controller (record { identifier = identifier; sdu = sdu }) result }
 {
     let mut best = Choice {
         empty: None,
         full: None,
     };
-    for h in 0..state.core.object_count {
-        let owner = state.core.owners.read(h);
+    for h in 0..core.object_count() {
+        let owner = core.read_owner(h);
         let own = owner.receiving & (owner.controller as usize == controller);
         if own {
-            let full = state.core.mailboxes.read(h).rx_full;
-            best = compare(best, identifier, h as u32, full, state.settings.read(h));
+            let full = core.read_mailbox(h).rx_full;
+            best = compare(best, identifier, h as u32, full, settings.read_settings(h));
         }
     }
     best

@@ -32,7 +32,16 @@ pub fn frame_arrived(
 {
     let mut next = state;
     let gate = full_gate(valid(state), sheet.len(), SHEET_SIZE, ram.len(), RAM_SIZE);
-    let reported = arrive_lent(gate, &mut next, ram, sheet, controller, identifier, sdu);
+    let reported = arrive_lent(
+        gate,
+        &mut next.core,
+        &next.settings,
+        ram,
+        sheet,
+        controller,
+        identifier,
+        sdu,
+    );
     Called {
         state: next,
         reply: reported.reply,

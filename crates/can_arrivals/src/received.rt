@@ -10,35 +10,41 @@ ghost use Rattle.core_answers.specs.Reply.{arrival_answer};
 ghost use Rattle.core_answers.specs.Performed.{Performed};
 ghost use Rattle.core_layout.specs.Sheet.{words_each};
 ghost use Rattle.core_events.specs.Pick.{view_pick};
-ghost use Rattle.can_state.specs.View.{view};
+ghost use Rattle.core_places.specs.Names.{SameNames};
+ghost use Rattle.can_state.specs.View.{state_of};
 ghost use Rattle.can_arrivals.specs.Lent.{ArrivalRoom};
 
 use crate::choice::choose;
 use can_layout::object::lay_down;
-use can_state::state::State;
+use can_state::settings_list::SettingsList;
 use core_answers::reply::Arrival;
 use core_answers::reported::Reported;
 use core_events::pick::{Picked, filled_mailbox};
 use core_layout::notification::{Notification, put};
+use core_places::set_places::SetMailboxes;
 
 // The frame is laid down in the object with handle zero, and the object is full. The sheet is not touched.
-fn store(
-    state: &mut State,
+fn store<K: SetMailboxes, S: SettingsList>(
+    core: &mut K,
+    settings: &S,
     ram: &mut [u8],
     object: u32,
     identifier: u32,
     sdu: &[u8],
 ) -> Reported<Arrival>
-    requires object_lt_objects { object < chip.objects }
+    requires object_lt_objects { (object < chip.objects) × (object < K.objects core.old) }
     requires ram_len { (length ram.old ≡ ram_size chip) × (length sdu.now ≤ longest_fd) }
-    ensures { (sheet : List ℕ)
-        → Performed (rules.stored chip can_format (view state.old) ram.old (record { identifier = identifier; sdu = sdu.now }) object)
-        (verdict_reason result.reply) (arrival_answer result.reply) (view state.new) result.notifications ram.new sheet sheet }
+    ensures performed { (sheet : List ℕ)
+        → Performed
+        (rules.stored chip can_format (state_of (K.core core.old) (S.places settings.now)) ram.old (record { identifier = identifier; sdu = sdu.now }) object)
+        (verdict_reason result.reply) (arrival_answer result.reply) (state_of (K.core core.new) (S.places settings.now)) result.notifications ram.new sheet sheet }
+    ensures places { (K.controllers core.new ≡ K.controllers core.old) × (K.objects core.new ≡ K.objects core.old) × (K.error_places core.new ≡ K.error_places core.old) }
+    ensures memory { SameNames (K.memory core.new) (K.memory core.old) }
 {
     let h = object as usize;
-    let padding = state.settings.read(h).padding;
+    let padding = settings.settings(h).padding;
     lay_down(ram, h, padding, 0, identifier, sdu);
-    state.core.mailboxes.set(h, filled_mailbox());
+    core.set_mailbox(h, filled_mailbox());
     Reported {
         reply: Ok(Arrival::Stored(object)),
         notifications: 0,
@@ -74,23 +80,30 @@ fn not_stored(sheet: &mut [u32], full: Option<Picked>) -> Reported<Arrival>
 }
 
 // The frame goes to the best empty object that fits, where there is one.
-pub fn received(
-    state: &mut State,
+pub fn received<K: SetMailboxes, S: SettingsList>(
+    core: &mut K,
+    settings: &S,
     ram: &mut [u8],
     sheet: &mut [u32],
     controller: usize,
     identifier: u32,
     sdu: &[u8],
 ) -> Reported<Arrival>
-    requires { ArrivalRoom state.old.core.object_count ram.old sheet.old × (length sdu.now ≤ longest_fd) }
-    ensures { Performed
-        (rules.received chip can_format (view state.old) ram.old controller (record { identifier = identifier; sdu = sdu.now })
-        (rules.best_object chip can_format (view state.old) controller (record { identifier = identifier; sdu = sdu.now }) false))
-        (verdict_reason result.reply) (arrival_answer result.reply) (view state.new) result.notifications ram.new sheet.old sheet.new }
+    requires room { ArrivalRoom (K.core core.old).object_count ram.old sheet.old × (length sdu.now ≤ longest_fd) }
+    requires places { ((K.core core.old).object_count ≤ K.objects core.old) × ((K.core core.old).object_count ≤ S.readable settings.now) }
+    ensures performed { Performed
+        (rules.received chip can_format (state_of (K.core core.old) (S.places settings.now)) ram.old controller
+        (record { identifier = identifier; sdu = sdu.now })
+        (rules.best_object chip can_format (state_of (K.core core.old) (S.places settings.now)) controller
+        (record { identifier = identifier; sdu = sdu.now }) false))
+        (verdict_reason result.reply) (arrival_answer result.reply) (state_of (K.core core.new) (S.places settings.now))
+        result.notifications ram.new sheet.old sheet.new }
+    ensures places { (K.controllers core.new ≡ K.controllers core.old) × (K.objects core.new ≡ K.objects core.old) × (K.error_places core.new ≡ K.error_places core.old) }
+    ensures memory { SameNames (K.memory core.new) (K.memory core.old) }
 {
-    let choice = choose(state, controller, identifier);
+    let choice = choose(core, settings, controller, identifier);
     match choice.empty {
-        Some(best) => store(state, ram, best.number, identifier, sdu),
+        Some(best) => store(core, settings, ram, best.number, identifier, sdu),
         None => not_stored(sheet, choice.full),
     }
 }

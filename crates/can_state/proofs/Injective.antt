@@ -1,29 +1,20 @@
 -- The view forgets nothing: two states that the rules see alike are one state. So a contract, which speaks of views, speaks of every field that the
--- code has, and no field can be added to a state that the rules do not see. A struct of arrays is seen as the list of its places, which gives the
--- arrays back: its model's `inverse_ok`, and core_places/proofs/Injective.antt.
+-- code has, and no field can be added to a state that the rules do not see. The view is that of the state's model, and so it is of the core in it; a
+-- struct of arrays is seen as the list of its places, which gives the arrays back: core_places/proofs/Injective.antt.
 use Prim.Native.Nat.{ℕ}
 use mathlib.Core.Path.{◌≡◌}
 use Rattle.rules.specs.Can.{Settings}
 use Rattle.core_places.proofs.Injective.{same}
-use Rattle.can_state.specs.declared.state.State.{State}
+use Rattle.can_state.specs.declared.state.State.TheInside as of_state
 use Rattle.can_state.specs.declared.settings_places.SettingsPlaces.TheInside.{Inside}
-use Rattle.can_state.specs.View.{view}
+use Rattle.can_state.specs.Seen.{state_seen}
 use Rattle.can_state.specs.Columns.{SettingsAlike, settings_in, payload_back, padding_back, code_back, mask_back}
 
-pub view_injective : (s t : State) → view s ≡ view t → s ≡ t
+pub view_injective : (s t : of_state.Inside) → state_seen s ≡ state_seen t → s ≡ t
 view_injective s t e =
     λ i.
     record {
-      core =
-          record {
-            initialised = (e i).core.initialised;
-            controller_count = (e i).core.controller_count;
-            object_count = (e i).core.object_count;
-            controllers = (e i).core.controllers;
-            errors = (e i).core.errors;
-            owners = (e i).core.owners;
-            mailboxes = (e i).core.mailboxes;
-          };
+      core = (e i).core;
       settings = (e i).settings;
     }
 

@@ -3,3 +3,4 @@ pub mod Laws
 pub mod Sizes
 pub mod Injective
 pub mod Gates
+pub mod Beside

@@ -21,7 +21,7 @@ sizes s v known =
             controllers_are = search length_of_map;
             errors_are = search length_of_map;
             owners_are = search length_of_map;
-            mailboxes_are = let mailboxes = known.1.1.0.1.1.1.1.1.1.1 in search length_of_map;
+            mailboxes_are = let mailboxes = known.0.1.1.0.0.1.1.1.1.1.1.1 in search length_of_map;
           };
       settings_are = search length_of_map;
     }

@@ -4,6 +4,8 @@
 pub mod agreement;
 pub mod called;
 pub mod settings;
+pub mod settings_list;
 pub mod settings_places;
+pub mod settings_slices;
 pub mod state;
 pub mod validity;

@@ -30,7 +30,17 @@ pub fn write(
         sheet.old }
 {
     let gate = full_gate(true, sheet.len(), SHEET_SIZE, ram.len(), RAM_SIZE);
-    write_lent(gate, state, ram, sheet, object, handle, identifier, sdu);
+    write_lent(
+        gate,
+        &mut state.core,
+        &state.settings,
+        ram,
+        sheet,
+        object,
+        handle,
+        identifier,
+        sdu,
+    );
 }
 
 // Arrived.
@@ -49,5 +59,14 @@ pub fn arrive(
         sheet.old }
 {
     let gate = full_gate(true, sheet.len(), SHEET_SIZE, ram.len(), RAM_SIZE);
-    arrive_lent(gate, state, ram, sheet, controller, identifier, sdu);
+    arrive_lent(
+        gate,
+        &mut state.core,
+        &state.settings,
+        ram,
+        sheet,
+        controller,
+        identifier,
+        sdu,
+    );
 }

@@ -32,7 +32,17 @@ pub fn write(
 {
     let mut next = state;
     let gate = full_gate(valid(state), sheet.len(), SHEET_SIZE, ram.len(), RAM_SIZE);
-    let reported = write_lent(gate, &mut next, ram, sheet, object, handle, identifier, sdu);
+    let reported = write_lent(
+        gate,
+        &mut next.core,
+        &next.settings,
+        ram,
+        sheet,
+        object,
+        handle,
+        identifier,
+        sdu,
+    );
     Called {
         state: next,
         reply: reported.reply,

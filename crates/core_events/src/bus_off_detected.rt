@@ -2,14 +2,15 @@
 ghost use Rattle.std.specs.Prelude.{◌≡◌, List, [], ℕ, ◌≤◌};
 ghost use Rattle.rules.specs.Outcome.{no_answer};
 ghost use Rattle.rules.specs.Events as rules;
-ghost use Rattle.core_places.specs.View.{view_controller, view_core};
+ghost use Rattle.core_places.specs.View.{view_controller};
+ghost use Rattle.core_places.specs.Names.{SameNames};
 ghost use Rattle.core_answers.specs.Answer.{verdict_reason};
 ghost use Rattle.core_answers.specs.Performed.{Performed};
 
 use crate::on_bus::judge_on_bus;
 use core_answers::verdict::Verdict;
 use core_places::controller::Controller;
-use core_places::core_state::Core;
+use core_places::set_places::SetControllers;
 
 // The controller with the off-bus mark; its mode and its request stay until the bus-off poll.
 pub fn marked_bus_off(k: Controller) -> Controller
@@ -23,20 +24,17 @@ pub fn marked_bus_off(k: Controller) -> Controller
 }
 
 // Marks the controller as off the bus. Any number may be named.
-pub fn bus_off_detected<const C: usize, const O: usize>(
-    gate: Verdict,
-    core: &mut Core<C, O>,
-    controller: u32,
-) -> Verdict
-    requires { verdict_reason gate ≡ 0 → core.old.controller_count ≤ C }
-    ensures { (ram : List ℕ)
-        → Performed (rules.bus_off_detected (verdict_reason gate) (view_core core.old) ram controller)
-        (verdict_reason result) no_answer (view_core core.new) 0 ram [] [] }
+pub fn bus_off_detected<K: SetControllers>(gate: Verdict, core: &mut K, controller: u32) -> Verdict
+    requires { verdict_reason gate ≡ 0 → (K.core core.old).controller_count ≤ K.controllers core.old }
+    ensures performed { (ram : List ℕ)
+        → Performed (rules.bus_off_detected (verdict_reason gate) (K.core core.old) ram controller)
+        (verdict_reason result) no_answer (K.core core.new) 0 ram [] [] }
+    ensures memory { SameNames (K.memory core.new) (K.memory core.old) }
 {
     let c = controller as usize;
-    let k = core.controllers.at(c);
-    let in_use = c < core.controller_count;
-    gate.and(judge_on_bus(core.initialised, in_use, k))?;
-    core.controllers.set(c, marked_bus_off(k));
+    let k = core.controller(c);
+    let in_use = c < core.controller_count();
+    gate.and(judge_on_bus(core.initialised(), in_use, k))?;
+    core.set_controller(c, marked_bus_off(k));
     Ok(())
 }

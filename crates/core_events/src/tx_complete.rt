@@ -3,7 +3,8 @@ ghost use Rattle.std.specs.Prelude.{◌≡◌, List, [], ℕ, ◌≤◌};
 ghost use Rattle.rules.specs.Reason.{first_reason};
 ghost use Rattle.rules.specs.Outcome.{no_answer};
 ghost use Rattle.rules.specs.Events as rules;
-ghost use Rattle.core_places.specs.View.{view_controller, view_mailbox, view_core};
+ghost use Rattle.core_places.specs.View.{view_controller, view_mailbox};
+ghost use Rattle.core_places.specs.Names.{SameNames};
 ghost use Rattle.core_answers.specs.Answer.{verdict_reason};
 ghost use Rattle.core_answers.specs.Performed.{Performed};
 ghost use Rattle.core_events.specs.Checks.{sent_checks};
@@ -11,8 +12,8 @@ ghost use Rattle.core_events.specs.Checks.{sent_checks};
 use core_answers::rejection::Rejection;
 use core_answers::verdict::Verdict;
 use core_places::controller::Controller;
-use core_places::core_state::Core;
 use core_places::mailbox::Mailbox;
+use core_places::set_places::SetMailboxes;
 
 // Whether a frame can have left an object: the driver is initialised, the object is a sending one, its mailbox holds an unsent
 // frame, and its controller is not off the bus.
@@ -48,22 +49,19 @@ pub fn sent_mailbox() -> Mailbox
 }
 
 // Marks the object as sent, so that the next write poll confirms it. Any number may be named.
-pub fn tx_complete<const C: usize, const O: usize>(
-    gate: Verdict,
-    core: &mut Core<C, O>,
-    object: u32,
-) -> Verdict
-    requires { verdict_reason gate ≡ 0 → core.old.object_count ≤ O }
-    ensures { (ram : List ℕ)
-        → Performed (rules.tx_complete (verdict_reason gate) (view_core core.old) ram object)
-        (verdict_reason result) no_answer (view_core core.new) 0 ram [] [] }
+pub fn tx_complete<K: SetMailboxes>(gate: Verdict, core: &mut K, object: u32) -> Verdict
+    requires { verdict_reason gate ≡ 0 → (K.core core.old).object_count ≤ K.objects core.old }
+    ensures performed { (ram : List ℕ)
+        → Performed (rules.tx_complete (verdict_reason gate) (K.core core.old) ram object)
+        (verdict_reason result) no_answer (K.core core.new) 0 ram [] [] }
+    ensures memory { SameNames (K.memory core.new) (K.memory core.old) }
 {
     let h = object as usize;
-    let owner = core.owners.at(h);
-    let k = core.controllers.at(owner.controller as usize);
-    let m = core.mailboxes.at(h);
-    let sending = (h < core.object_count) & !owner.receiving;
-    gate.and(judge_sent(core.initialised, sending, m, k))?;
-    core.mailboxes.set(h, sent_mailbox());
+    let owner = core.owner(h);
+    let k = core.controller(owner.controller as usize);
+    let m = core.mailbox(h);
+    let sending = (h < core.object_count()) & !owner.receiving;
+    gate.and(judge_sent(core.initialised(), sending, m, k))?;
+    core.set_mailbox(h, sent_mailbox());
     Ok(())
 }

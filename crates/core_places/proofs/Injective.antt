@@ -5,6 +5,8 @@ use mathlib.Core.Path.{◌≡◌, ap, sym, ◌∙◌}
 use mathlib.Core.List.{List, map}
 use Rattle.rules.specs.Errors.{Errors}
 use Rattle.rules.specs.Core.{Controller, Owner, Mailbox}
+use Rattle.core_places.specs.declared.core_state.Core.TheInside as core
+use Rattle.core_places.specs.Seen.{core_seen}
 use Rattle.core_places.specs.Arrays.{Alike, controllers_in, errors_in, owners_in, mailboxes_in}
 use Rattle.core_places.specs.Columns.{mode_back, request_back, mark_back, recovering_back, tx_back, rx_back, controller_back, kind_back, pool_back, pending_back, done_back, full_back}
 use Rattle.core_places.specs.declared.controllers.Controllers.TheInside as controllers
@@ -54,4 +56,18 @@ mailboxes_injective a b m n e =
       pendings = same (λ (x : Mailbox). x.tx_pending) e (pending_back a.pendings a.dones a.fulls m) (pending_back b.pendings b.dones b.fulls n) i;
       dones = same (λ (x : Mailbox). x.tx_done) e (done_back a.pendings a.dones a.fulls m) (done_back b.pendings b.dones b.fulls n) i;
       fulls = same (λ (x : Mailbox). x.rx_full) e (full_back a.pendings a.dones a.fulls m) (full_back b.pendings b.dones b.fulls n) i;
+    }
+
+-- So it is of a core's fields, where each struct of arrays stands as the list of its places.
+pub core_injective : {C O : ℕ} (a b : core.Inside C O) → core_seen a ≡ core_seen b → a ≡ b
+core_injective a b e =
+    λ i.
+    record {
+      initialised = (e i).initialised;
+      controller_count = (e i).controller_count;
+      object_count = (e i).object_count;
+      controllers = (e i).controllers;
+      errors = (e i).errors;
+      owners = (e i).owners;
+      mailboxes = (e i).mailboxes;
     }

@@ -7,7 +7,6 @@ use Rattle.core_places.specs.declared.controller.Controller.{Controller}
 use Rattle.core_places.specs.declared.errors.Errors.{Errors}
 use Rattle.core_places.specs.declared.owner.Owner.{Owner}
 use Rattle.core_places.specs.declared.mailbox.Mailbox.{Mailbox}
-use Rattle.core_places.specs.declared.core_state.Core.{Core}
 
 abbrev pub view_controller : Controller → rules.Controller
 view_controller k = record { mode = k.mode; requested_mode = k.requested_mode; bus_off = k.bus_off }
@@ -21,17 +20,9 @@ view_owner o = record { controller = o.controller; receiving = o.receiving; pool
 abbrev pub view_mailbox : Mailbox → rules.Mailbox
 view_mailbox m = record { tx_pending = m.tx_pending; tx_done = m.tx_done; rx_full = m.rx_full }
 
-abbrev pub view_core : {C O : ℕ} → Core C O → rules.Core
-view_core core =
-    record {
-      initialised = core.initialised;
-      controller_count = core.controller_count;
-      object_count = core.object_count;
-      owners = core.owners;
-      controllers = core.controllers;
-      mailboxes = core.mailboxes;
-      errors = core.errors;
-    }
+-- a core is seen so by its model
+abbrev pub view_core : rules.Core → rules.Core
+view_core core = core
 
 -- so many places for controllers and for objects; a core has no bytes, so their sizes are not looked at
 abbrev pub limits_of : ℕ → ℕ → Limits

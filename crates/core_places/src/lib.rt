@@ -4,12 +4,22 @@
 
 pub mod at;
 pub mod controller;
+pub mod controller_pair;
 pub mod controllers;
 pub mod core_state;
 pub mod error_places;
 pub mod errors;
+pub mod lent_core;
+pub mod lent_errors;
+pub mod lent_mailboxes;
+pub mod lent_to_read;
+pub mod lists;
 pub mod mailbox;
 pub mod mailboxes;
+pub mod object_pair;
 pub mod owner;
 pub mod owners;
+pub mod places;
 pub mod range;
+pub mod set_places;
+pub mod slices;

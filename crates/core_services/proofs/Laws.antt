@@ -2,18 +2,19 @@
 use Prim.Native.Nat.{ℕ, ◌≤◌, ◌<◌}
 use mathlib.Core.Path.{◌≡◌, refl, sym, ap, ◌∙◌}
 use mathlib.Core.Bool.{Bool, true, false, cond}
-use mathlib.Core.List.{List, ◌∷◌}
+use mathlib.Core.List.{List, ◌∷◌, ◌++◌}
 use native.Mathlib.Omega.{arith}
 use lib.ListN.{length}
 use lib.Dec.{eqb, ltb}
 use borrow.Author.Tests.{eqb-true, ltb-false}
 use Rattle.rules.specs.Reason.{Check, ◌if◌, first_reason, ◌then◌, is_development_error, INVALID_STATE, SHEET_TOO_SHORT}
-use Rattle.rules.specs.Core.{Core, free_member}
+use Rattle.rules.specs.Core.{Controller, Core, controller_at, in_use, free_member}
 use Rattle.rules.specs.Services.{write_reason}
 use Rattle.laws.proofs.Tests.{clash}
 use Rattle.laws.proofs.Pools.{named, taken_member}
 use Rattle.laws.proofs.Acceptance.{write_passed}
 use Rattle.core_layout.specs.Sheet.{words_each}
+use Rattle.core_services.specs.Checks.{in_use_checks, move_checks}
 use Rattle.core_services.specs.Room.{Room}
 
 -- a gate that asks for so many words, of which the first notification takes some, finds no development error where there are fewer
@@ -39,3 +40,13 @@ room_then gate own {sheet = sheet} room found = rw found (go (eqb gate 0) refl)
 -- the member that takes a write is in use
 pub taken_in_use : (core : Core) (h frame : ℕ) → write_reason core h frame ≡ 0 → free_member core h < core.object_count
 taken_in_use core h frame none = (taken_member core h (named core h (write_passed core h frame none).pool_named)).in_use
+
+-- what is read of a core is the core's own
+pub in_use_read : (core : Core) (c : ℕ) {i : Bool} {n : ℕ} → i ≡ core.initialised → n ≡ core.controller_count
+    → first_reason (in_use_checks i (ltb c n)) ≡ first_reason (in_use_checks core.initialised (in_use core c))
+in_use_read core c begun count = rw (count, begun)
+
+pub set_mode_read : (core : Core) (c asked : ℕ) {i : Bool} {n : ℕ} {k : Controller} → i ≡ core.initialised → n ≡ core.controller_count → k ≡ controller_at core.controllers c
+    → first_reason (in_use_checks i (ltb c n) ++ move_checks k asked)
+    ≡ first_reason (in_use_checks core.initialised (in_use core c) ++ move_checks (controller_at core.controllers c) asked)
+set_mode_read core c asked begun count seen = rw (seen, count, begun)

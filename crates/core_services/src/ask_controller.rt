@@ -1,7 +1,7 @@
 // What is asked of a controller: its mode by GetControllerMode, its error state and its error counts by services of their own.
 ghost use Rattle.std.specs.Prelude.{◌≡◌, List, ℕ};
 ghost use Rattle.rules.specs.Services as rules;
-ghost use Rattle.core_places.specs.View.{view_controller, view_errors, view_core};
+ghost use Rattle.core_places.specs.View.{view_controller, view_errors};
 ghost use Rattle.core_answers.specs.Answer.{verdict_reason};
 ghost use Rattle.core_answers.specs.Reply.{question_of, question_answer};
 ghost use Rattle.core_answers.specs.Performed.{Performed};
@@ -17,8 +17,8 @@ use core_answers::question::Question;
 use core_answers::reported::Reported;
 use core_answers::verdict::Verdict;
 use core_places::controller::Controller;
-use core_places::core_state::Core;
 use core_places::errors::{Errors, capped, error_state};
+use core_places::places::CorePlaces;
 
 // The number of the service that asks.
 fn service_of(question: Question) -> u32
@@ -45,23 +45,23 @@ fn answer_to(question: Question, k: Controller, e: Errors) -> u8
 }
 
 // Answers the question of a controller in use.
-pub fn ask_controller<const C: usize, const O: usize>(
+pub fn ask_controller<K: CorePlaces>(
     gate: Verdict,
     question: Question,
-    core: &Core<C, O>,
+    core: &K,
     sheet: &mut [u32],
     controller: u32,
 ) -> Reported<u8>
     requires { Room (verdict_reason gate) sheet.old }
     ensures { (ram : List ℕ)
-        → Performed (rules.ask_controller (verdict_reason gate) (question_of question) (view_core core.now) ram controller)
-        (verdict_reason result.reply) (question_answer question result.reply) (view_core core.now)
+        → Performed (rules.ask_controller (verdict_reason gate) (question_of question) (K.core core.now) ram controller)
+        (verdict_reason result.reply) (question_answer question result.reply) (K.core core.now)
         result.notifications ram sheet.old sheet.new }
 {
     let c = controller as usize;
-    let k = core.controllers.at(c);
-    let e = core.errors.at(c);
-    match gate.and(judge_in_use(core.initialised, c, core.controller_count)) {
+    let k = core.controller(c);
+    let e = core.error_place(c);
+    match gate.and(judge_in_use(core.initialised(), c, core.controller_count())) {
         Ok(()) => Reported {
             reply: Ok(answer_to(question, k, e)),
             notifications: 0,

@@ -3,24 +3,23 @@ ghost use Rattle.std.specs.Prelude.{◌≡◌};
 ghost use Rattle.rules.specs.Reason.{first_reason};
 ghost use Rattle.rules.specs.Services as rules;
 ghost use Rattle.core_answers.specs.Answer.{verdict_reason};
-ghost use Rattle.core_places.specs.View.{view_core};
 ghost use Rattle.core_services.specs.Checks.{deinit_checks};
 
 use core_answers::rejection::Rejection;
 use core_answers::verdict::Verdict;
 use core_places::controller::STARTED;
-use core_places::core_state::Core;
+use core_places::places::CorePlaces;
 use core_places::range::limited;
 
 // Whether a controller in use is STARTED.
 #[tactic(auto, unfolding(rules::specs::Repeat::all_below))]
-pub fn some_started<const C: usize, const O: usize>(core: &Core<C, O>) -> bool
-    ensures { result ≡ rules.some_started (view_core core.now) }
+pub fn some_started<K: CorePlaces>(core: &K) -> bool
+    ensures { result ≡ rules.some_started (K.core core.now) }
 {
-    let end = limited(core.controller_count, core.controllers.len());
+    let end = limited(core.controller_count(), core.controller_places());
     let mut none = true;
     for c in 0..end {
-        none = none & (core.controllers.read(c).mode != STARTED);
+        none = none & (core.read_controller(c).mode != STARTED);
     }
     !none
 }

@@ -1,49 +1,47 @@
 // The pool that a write names, and the member that takes the frame.
-ghost use Rattle.std.specs.Prelude.{◌≡◌, ◌≤◌, ◌<◌, eqb};
+ghost use Rattle.std.specs.Prelude.{◌≡◌, ◌≤◌, ◌<◌, eqb, max};
 ghost use Rattle.rules.specs.Core as rules;
-ghost use Rattle.core_places.specs.View.{view_core};
 
-use core_places::core_state::Core;
-use core_places::owners::Owners;
+use core_places::places::CorePlaces;
 
 // Whether no object below h is a member of h's pool.
 #[tactic(auto, using(laws::proofs::Repeat::all_below_more), unfolding(rules::specs::Repeat::all_below))]
-fn is_lowest<const N: usize>(owners: &Owners<N>, h: usize) -> bool
-    requires { h < N }
-    ensures { result ≡ eqb (rules.lowest_of owners.now h) h }
+fn is_lowest<K: CorePlaces>(core: &K, h: usize) -> bool
+    requires { h < max (K.objects core.now) (K.readable_objects core.now) }
+    ensures { result ≡ eqb (rules.lowest_of (K.core core.now).owners h) h }
 {
-    let pool = owners.read(h).pool;
+    let pool = core.read_owner(h).pool;
     let mut none = true;
     for i in 0..h {
-        let o = owners.read(i);
+        let o = core.read_owner(i);
         none = none & !(!o.receiving & (o.pool == pool));
     }
     none
 }
 
 // Whether object h names a pool: it is in use, it sends, and it is the lowest of its pool. Any number may be asked for.
-pub fn names_pool<const C: usize, const O: usize>(core: &Core<C, O>, h: usize) -> bool
-    requires { core.now.object_count ≤ O }
-    ensures { result ≡ rules.names_pool (view_core core.now) h }
+pub fn names_pool<K: CorePlaces>(core: &K, h: usize) -> bool
+    requires { (K.core core.now).object_count ≤ max (K.objects core.now) (K.readable_objects core.now) }
+    ensures { result ≡ rules.names_pool (K.core core.now) h }
 {
-    if h < core.object_count {
-        let lowest = is_lowest(&core.owners, h);
-        !core.owners.read(h).receiving & lowest
+    if h < core.object_count() {
+        let lowest = is_lowest(core, h);
+        !core.read_owner(h).receiving & lowest
     } else {
         false
     }
 }
 
 // The lowest free member of the pool of object h; h where none is free. From the highest object down, so that the last one found is the lowest.
-pub fn free_member<const C: usize, const O: usize>(core: &Core<C, O>, h: usize) -> usize
-    requires { core.now.object_count ≤ O }
-    ensures { result ≡ rules.free_member (view_core core.now) h }
+pub fn free_member<K: CorePlaces>(core: &K, h: usize) -> usize
+    requires { (K.core core.now).object_count ≤ max (K.objects core.now) (K.readable_objects core.now) }
+    ensures { result ≡ rules.free_member (K.core core.now) h }
 {
-    let pool = core.owners.at(h).pool;
+    let pool = core.owner(h).pool;
     let mut member = h;
-    for i in (0..core.object_count).rev() {
-        let o = core.owners.read(i);
-        if !o.receiving & (o.pool == pool) & !core.mailboxes.read(i).tx_pending {
+    for i in (0..core.object_count()).rev() {
+        let o = core.read_owner(i);
+        if !o.receiving & (o.pool == pool) & !core.read_mailbox(i).tx_pending {
             member = i;
         }
     }

@@ -4,7 +4,8 @@ ghost use Rattle.rules.specs.Mode as modes;
 ghost use Rattle.rules.specs.Reason.{first_reason};
 ghost use Rattle.rules.specs.Outcome.{no_answer};
 ghost use Rattle.rules.specs.Services as rules;
-ghost use Rattle.core_places.specs.View.{view_controller, view_core};
+ghost use Rattle.core_places.specs.View.{view_controller};
+ghost use Rattle.core_places.specs.Names.{SameNames};
 ghost use Rattle.core_answers.specs.Answer.{verdict_reason};
 ghost use Rattle.core_answers.specs.Performed.{Performed};
 ghost use Rattle.core_services.specs.Checks.{in_use_checks, move_checks};
@@ -17,7 +18,7 @@ use core_answers::rejection::Rejection;
 use core_answers::reported::Reported;
 use core_answers::verdict::Verdict;
 use core_places::controller::{Controller, permitted};
-use core_places::core_state::Core;
+use core_places::set_places::SetControllers;
 
 // Reason 6: a controller in this mode may be asked for that one, which can be any number.
 #[tactic(auto, unfolding(rules::specs::Reason::first_reason))]
@@ -59,24 +60,26 @@ pub fn request_mode(k: Controller, asked: u32) -> Controller
 }
 
 // Has a controller in use wait for a mode that is permitted from its present one.
-pub fn set_controller_mode<const C: usize, const O: usize>(
+pub fn set_controller_mode<K: SetControllers>(
     gate: Verdict,
-    core: &mut Core<C, O>,
+    core: &mut K,
     sheet: &mut [u32],
     controller: u32,
     asked: u32,
 ) -> Reported<()>
-    requires { (verdict_reason gate ≡ 0 → core.old.controller_count ≤ C) × Room (verdict_reason gate) sheet.old }
-    ensures { (ram : List ℕ)
-        → Performed (rules.set_controller_mode (verdict_reason gate) (view_core core.old) ram controller asked)
-        (verdict_reason result.reply) no_answer (view_core core.new)
+    requires { (verdict_reason gate ≡ 0 → (K.core core.old).controller_count ≤ K.controllers core.old) × Room (verdict_reason gate) sheet.old }
+    ensures performed { (ram : List ℕ)
+        → Performed (rules.set_controller_mode (verdict_reason gate) (K.core core.old) ram controller asked)
+        (verdict_reason result.reply) no_answer (K.core core.new)
         result.notifications ram sheet.old sheet.new }
+    ensures places { (K.controllers core.new ≡ K.controllers core.old) × (K.objects core.new ≡ K.objects core.old) × (K.error_places core.new ≡ K.error_places core.old) }
+    ensures memory { SameNames (K.memory core.new) (K.memory core.old) }
 {
     let c = controller as usize;
-    let k = core.controllers.at(c);
-    match gate.and(judge_set_mode(core.initialised, c, core.controller_count, k, asked)) {
+    let k = core.controller(c);
+    match gate.and(judge_set_mode(core.initialised(), c, core.controller_count(), k, asked)) {
         Ok(()) => {
-            core.controllers.set(c, request_mode(k, asked));
+            core.set_controller(c, request_mode(k, asked));
             Reported {
                 reply: Ok(()),
                 notifications: 0,

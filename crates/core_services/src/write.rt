@@ -3,7 +3,8 @@ ghost use Rattle.std.specs.Prelude.{◌≡◌, ◌≤◌, ◌^◌};
 ghost use Rattle.rules.specs.Reason.{first_reason, ◌then◌};
 ghost use Rattle.rules.specs.Core.{free_member};
 ghost use Rattle.rules.specs.Services as rules;
-ghost use Rattle.core_places.specs.View.{view_controller, view_mailbox, view_core};
+ghost use Rattle.core_places.specs.View.{view_controller, view_mailbox};
+ghost use Rattle.core_places.specs.Names.{SameNames};
 ghost use Rattle.core_answers.specs.Answer.{verdict_reason};
 ghost use Rattle.core_answers.specs.Reply.{write_answer};
 ghost use Rattle.core_services.specs.Checks.{sending_checks, free_checks};
@@ -14,8 +15,9 @@ use core_answers::rejection::Rejection;
 use core_answers::reply::WriteReply;
 use core_answers::verdict::Verdict;
 use core_places::controller::{Controller, STARTED};
-use core_places::core_state::Core;
 use core_places::mailbox::Mailbox;
+use core_places::places::CorePlaces;
+use core_places::set_places::SetMailboxes;
 
 // Reasons 5 and 2: the driver is initialised, and the object names a pool.
 #[tactic(auto, unfolding(rules::specs::Reason::first_reason))]
@@ -83,51 +85,46 @@ pub fn written_mailbox() -> Mailbox
 }
 
 // The same, of what is read of the core: object h is named, and this member would take the frame.
-fn judge_open<const C: usize, const O: usize>(
-    frame: Verdict,
-    core: &Core<C, O>,
-    h: usize,
-    member: usize,
-) -> Verdict
-    requires { (core.now.object_count ≤ O) × (member ≡ free_member (view_core core.now) h) }
-    ensures { verdict_reason result ≡ rules.write_reason (view_core core.now) h (verdict_reason frame) }
+fn judge_open<K: CorePlaces>(frame: Verdict, core: &K, h: usize, member: usize) -> Verdict
+    requires { ((K.core core.now).object_count ≤ K.objects core.now) × (member ≡ free_member (K.core core.now) h) }
+    ensures { verdict_reason result ≡ rules.write_reason (K.core core.now) h (verdict_reason frame) }
 {
-    let owner = core.owners.at(h);
-    let k = core.controllers.at(owner.controller as usize);
-    let m = core.mailboxes.at(member);
-    judge_write(core.initialised, names_pool(core, h), k, m, frame)
+    let owner = core.owner(h);
+    let k = core.controller(owner.controller as usize);
+    let m = core.mailbox(member);
+    judge_write(core.initialised(), names_pool(core, h), k, m, frame)
 }
 
 // Has the lowest free member of the object's pool wait to be sent, where the frame is not refused and the pool can take it; behind the gate.
 #[tactic(auto, using(core_answers::proofs::Laws::reason_named))]
-fn take_open<const C: usize, const O: usize>(
-    frame: Verdict,
-    core: &mut Core<C, O>,
-    object: u32,
-) -> WriteReply
-    requires { (core.old.object_count ≤ O) × (O ≤ 2 ^ 32) }
-    ensures { WriteTaken (view_core core.old) object 0 (verdict_reason frame) (verdict_reason result) (write_answer result)
-        (view_core core.new) }
+fn take_open<K: SetMailboxes>(frame: Verdict, core: &mut K, object: u32) -> WriteReply
+    requires { ((K.core core.old).object_count ≤ K.objects core.old) × (K.objects core.old ≤ 2 ^ 32) }
+    ensures taken { WriteTaken (K.core core.old) object 0 (verdict_reason frame) (verdict_reason result) (write_answer result)
+        (K.core core.new) }
+    ensures places { (K.controllers core.new ≡ K.controllers core.old) × (K.objects core.new ≡ K.objects core.old) × (K.error_places core.new ≡ K.error_places core.old) }
+    ensures memory { SameNames (K.memory core.new) (K.memory core.old) }
 {
     let h = object as usize;
     let member = free_member(core, h);
     judge_open(frame, core, h, member)?;
-    core.mailboxes.set(member, written_mailbox());
+    core.set_mailbox(member, written_mailbox());
     Ok(member as u32)
 }
 
 // The same behind the gate's verdict: nothing is looked at where the gate refuses. The caller lays the frame down in the object that took it,
 // and reports a refusal.
 #[tactic(auto, using(core_answers::proofs::Laws::reason_named))]
-pub fn take_write<const C: usize, const O: usize>(
+pub fn take_write<K: SetMailboxes>(
     gate: Verdict,
     frame: Verdict,
-    core: &mut Core<C, O>,
+    core: &mut K,
     object: u32,
 ) -> WriteReply
-    requires { (O ≤ 2 ^ 32) × (verdict_reason gate ≡ 0 → core.old.object_count ≤ O) }
-    ensures { WriteTaken (view_core core.old) object (verdict_reason gate) (verdict_reason frame) (verdict_reason result) (write_answer result)
-        (view_core core.new) }
+    requires { (K.objects core.old ≤ 2 ^ 32) × (verdict_reason gate ≡ 0 → (K.core core.old).object_count ≤ K.objects core.old) }
+    ensures taken { WriteTaken (K.core core.old) object (verdict_reason gate) (verdict_reason frame) (verdict_reason result) (write_answer result)
+        (K.core core.new) }
+    ensures places { (K.controllers core.new ≡ K.controllers core.old) × (K.objects core.new ≡ K.objects core.old) × (K.error_places core.new ≡ K.error_places core.old) }
+    ensures memory { SameNames (K.memory core.new) (K.memory core.old) }
 {
     gate?;
     take_open(frame, core, object)

@@ -13,7 +13,6 @@ use Rattle.rules.specs.Errors.{Errors, errors_none}
 use Rattle.rules.specs.Core.{Controller, Owner, Mailbox, Core, has_places, owner_place_valid, controller_place_valid, mailbox_place_valid, owner_at, mailbox_at, controller_at, errors_at, controller_of, is_started, controller_valid, errors_valid, controller_idle, owner_valid, owner_unused, mailbox_valid, mailbox_empty}
 use Rattle.laws.proofs.Tests.{both, left, right, decide, same_truth, under}
 use Rattle.laws.proofs.Repeat.{all_facts, facts_all}
-use Rattle.core_places.specs.Sized.{Sized}
 use Rattle.core_places.specs.View.{limits_of}
 use Rattle.core_places.proofs.Laws.{limited_count}
 use Rattle.core_validity.specs.Tests.{counts_suit, controllers_valid, controllers_idle, objects_valid, objects_unused, waiting_started, places_valid, errors_suit, errors_rest, errors_places_valid}
@@ -77,7 +76,7 @@ regrouped owners controllers mailboxes a b c d e f =
     and_assoc owners controllers mailboxes ∙ ap (λ (t : Bool). owners && t) (and_comm controllers mailboxes) ∙ sym (and_assoc owners mailboxes controllers)
     ∙ rw (e, f) (and_comm (b && d) (a && c) ∙ and_pairs a c b d)
 
-module _ (C O : ℕ) (core : Core) (sized : Sized C O core) where
+module _ (C O : ℕ) (core : Core) (controllers_are : length core.controllers ≡ C) (owners_are : length core.owners ≡ O) (mailboxes_are : length core.mailboxes ≡ O) where
   abbrev ks : List Controller
   ks = core.controllers
 
@@ -103,19 +102,19 @@ module _ (C O : ℕ) (core : Core) (sized : Sized C O core) where
   object_in_use h = owner_valid core.controller_count (owner_at os h) && mailbox_valid (owner_at os h).receiving (is_started (controller_of core h)) (mailbox_at ms h)
 
   all_places : has_places (limits_of C O) core ≡ true
-  all_places = both (both (eq-eqb _ _ sized.controllers_are) (eq-eqb _ _ sized.owners_are)) (eq-eqb _ _ sized.mailboxes_are)
+  all_places = both (both (eq-eqb _ _ controllers_are) (eq-eqb _ _ owners_are)) (eq-eqb _ _ mailboxes_are)
 
   controllers_parts : core.controller_count ≤ C
       → all_below C (controller_place_valid core) ≡ (controllers_valid ks core.controller_count && controllers_idle ks core.controller_count)
   controllers_parts l =
-      rw sized.controllers_are
+      rw controllers_are
       (by_count core.controller_count (λ c. controller_idle (controller_at ks c)) C (λ c. controller_valid (controller_at ks c)) l)
 
   objects_parts : core.object_count ≤ O
       → (all_below O (owner_place_valid core.controller_count core.object_count os) && all_below O (mailbox_place_valid core))
       ≡ (all_below core.object_count object_in_use && objects_unused os ms core.object_count)
   objects_parts l =
-      rw sized.owners_are
+      rw owners_are
       (sym
       (by_use O core.object_count (λ h. owner_valid core.controller_count (owner_at os h))
       (λ h. mailbox_valid (owner_at os h).receiving (is_started (controller_of core h)) (mailbox_at ms h)) (λ h. owner_unused (owner_at os h))

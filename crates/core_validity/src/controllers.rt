@@ -3,13 +3,13 @@ ghost use Rattle.std.specs.Prelude.{◌≡◌, ◌≤◌};
 ghost use Rattle.core_validity.specs.Tests as tests;
 
 use core_places::controller::{controller_idle, controller_valid};
-use core_places::controllers::Controllers;
+use core_places::lists::ControllerList;
 
 // Each controller in use is valid.
 #[tactic(auto, using(crate::proofs::Laws::all_below_more), unfolding(rules::specs::Repeat::all_below))]
-pub fn controllers_valid<const N: usize>(controllers: &Controllers<N>, count: usize) -> bool
-    requires { count ≤ N }
-    ensures { result ≡ tests.controllers_valid controllers.now count }
+pub fn controllers_valid<K: ControllerList>(controllers: &K, count: usize) -> bool
+    requires { count ≤ K.size controllers.now }
+    ensures { result ≡ tests.controllers_valid (K.places controllers.now) count }
 {
     let mut ok = true;
     for c in 0..count {
@@ -20,9 +20,9 @@ pub fn controllers_valid<const N: usize>(controllers: &Controllers<N>, count: us
 
 // Each controller that is not in use is at rest.
 #[tactic(auto, using(crate::proofs::Laws::from_none, crate::proofs::Laws::from_more))]
-pub fn controllers_idle<const N: usize>(controllers: &Controllers<N>, count: usize) -> bool
-    requires { count ≤ N }
-    ensures { result ≡ tests.controllers_idle controllers.now count }
+pub fn controllers_idle<K: ControllerList>(controllers: &K, count: usize) -> bool
+    requires { count ≤ K.size controllers.now }
+    ensures { result ≡ tests.controllers_idle (K.places controllers.now) count }
 {
     let mut ok = true;
     for c in count..controllers.len() {

@@ -2,20 +2,15 @@
 ghost use Rattle.std.specs.Prelude.{◌≡◌, ◌≤◌};
 ghost use Rattle.core_validity.specs.Tests as tests;
 
-use core_places::controllers::Controllers;
-use core_places::error_places::ErrorPlaces;
 use core_places::errors::{errors_none, errors_valid};
+use core_places::lists::{ControllerList, ErrorList};
 use core_places::range::limited;
 
 // The errors of each controller in use are valid for it.
 #[tactic(auto, using(crate::proofs::Laws::all_below_more), unfolding(rules::specs::Repeat::all_below))]
-fn errors_suit<const N: usize>(
-    controllers: &Controllers<N>,
-    errors: &ErrorPlaces<N>,
-    count: usize,
-) -> bool
-    requires { count ≤ N }
-    ensures { result ≡ tests.errors_suit controllers.now errors.now count }
+fn errors_suit<K: ControllerList, E: ErrorList>(controllers: &K, errors: &E, count: usize) -> bool
+    requires { (count ≤ K.size controllers.now) × (count ≤ E.size errors.now) }
+    ensures { result ≡ tests.errors_suit (K.places controllers.now) (E.places errors.now) count }
 {
     let mut ok = true;
     for c in 0..count {
@@ -28,9 +23,9 @@ fn errors_suit<const N: usize>(
 
 // The errors of each other place are at rest.
 #[tactic(auto, using(crate::proofs::Laws::from_none, crate::proofs::Laws::from_more))]
-fn errors_rest<const N: usize>(errors: &ErrorPlaces<N>, count: usize) -> bool
-    requires { count ≤ N }
-    ensures { result ≡ tests.errors_rest errors.now count }
+fn errors_rest<E: ErrorList>(errors: &E, count: usize) -> bool
+    requires { count ≤ E.size errors.now }
+    ensures { result ≡ tests.errors_rest (E.places errors.now) count }
 {
     let mut ok = true;
     for c in count..errors.len() {
@@ -41,12 +36,13 @@ fn errors_rest<const N: usize>(errors: &ErrorPlaces<N>, count: usize) -> bool
 }
 
 // The errors of every place, where so many controllers are in use.
-pub fn errors_places_valid<const N: usize>(
+pub fn errors_places_valid<K: ControllerList, E: ErrorList>(
     controller_count: usize,
-    controllers: &Controllers<N>,
-    errors: &ErrorPlaces<N>,
+    controllers: &K,
+    errors: &E,
 ) -> bool
-    ensures { result ≡ tests.errors_places_valid N controller_count controllers.now errors.now }
+    requires { E.size errors.now ≡ K.size controllers.now }
+    ensures { result ≡ tests.errors_places_valid (K.size controllers.now) controller_count (K.places controllers.now) (E.places errors.now) }
 {
     let end = limited(controller_count, errors.len());
     let suit = errors_suit(controllers, errors, end);

@@ -3,7 +3,7 @@
 ghost use Rattle.std.specs.Prelude.{◌≡◌, ◌≤◌, ◌<◌, ◌^◌, cond};
 ghost use Rattle.core_validity.specs.Pools.{lowest_seen, table_with, pool_beside, own_pools};
 
-use core_places::owners::Owners;
+use core_places::lists::OwnerList;
 use core_places::range::limited;
 
 // The number of an object that is its own pool; 0 where it receives.
@@ -16,9 +16,9 @@ fn own_pool(receiving: bool, h: usize) -> u8
 
 // Whether no pool is shared: each object is its own, under its own number, which is a byte.
 #[tactic(auto, using(crate::proofs::Laws::all_below_more), unfolding(rules::specs::Repeat::all_below))]
-pub fn own_pools<const N: usize>(owners: &Owners<N>, count: usize) -> bool
-    requires { (count ≤ N) × (count ≤ 2 ^ 8) }
-    ensures { result ≡ own_pools owners.now count }
+pub fn own_pools<W: OwnerList>(owners: &W, count: usize) -> bool
+    requires { (count ≤ W.size owners.now) × (count ≤ 2 ^ 8) }
+    ensures { result ≡ own_pools (W.places owners.now) count }
 {
     let mut ok = true;
     for h in 0..count {
@@ -30,10 +30,10 @@ pub fn own_pools<const N: usize>(owners: &Owners<N>, count: usize) -> bool
 
 // The lowest member of object h's pool, where the table has it among the objects before h; the table then has it for those behind h too. The
 // object itself where it receives, or has a pool that the table has no place for.
-pub fn lowest_member<const N: usize>(owners: &Owners<N>, table: &mut [usize], h: usize) -> usize
-    requires { h < N }
-    ensures { (result ≡ lowest_seen owners.now table.old h)
-        × (table.new ≡ table_with owners.now table.old h) }
+pub fn lowest_member<W: OwnerList>(owners: &W, table: &mut [usize], h: usize) -> usize
+    requires { h < W.size owners.now }
+    ensures { (result ≡ lowest_seen (W.places owners.now) table.old h)
+        × (table.new ≡ table_with (W.places owners.now) table.old h) }
 {
     let o = owners.read(h);
     let pool = o.pool as usize;
@@ -46,9 +46,9 @@ pub fn lowest_member<const N: usize>(owners: &Owners<N>, table: &mut [usize], h:
 }
 
 // The pool of object h: one of as many as there are places, with the controller of its lowest member; 0 where the object receives.
-pub fn pool_valid<const N: usize>(owners: &Owners<N>, h: usize, lowest: usize) -> bool
-    requires { (h < N) × (lowest < N) }
-    ensures { result ≡ pool_beside N owners.now h lowest }
+pub fn pool_valid<W: OwnerList>(owners: &W, h: usize, lowest: usize) -> bool
+    requires { (h < W.size owners.now) × (lowest < W.size owners.now) }
+    ensures { result ≡ pool_beside (W.size owners.now) (W.places owners.now) h lowest }
 {
     let o = owners.read(h);
     let pool = o.pool as usize;

@@ -4,21 +4,14 @@ ghost use Rattle.std.specs.Prelude.{◌≡◌, ◌≤◌, min};
 ghost use Rattle.core_validity.specs.Tests as tests;
 
 use core_places::controller::STARTED;
-use core_places::controllers::Controllers;
-use core_places::mailboxes::Mailboxes;
-use core_places::owners::Owners;
+use core_places::lists::{ControllerList, MailboxList, OwnerList};
 use core_places::range::limited;
 
 // No frame waits in an object of controller c.
 #[tactic(auto, using(crate::proofs::Laws::all_below_more), unfolding(rules::specs::Repeat::all_below))]
-fn none_waits<const N: usize>(
-    owners: &Owners<N>,
-    mailboxes: &Mailboxes<N>,
-    count: usize,
-    c: u8,
-) -> bool
-    requires { count ≤ N }
-    ensures { result ≡ tests.none_waits owners.now mailboxes.now count c }
+fn none_waits<W: OwnerList, M: MailboxList>(owners: &W, mailboxes: &M, count: usize, c: u8) -> bool
+    requires { (count ≤ W.size owners.now) × (count ≤ M.size mailboxes.now) }
+    ensures { result ≡ tests.none_waits (W.places owners.now) (M.places mailboxes.now) count c }
 {
     let mut ok = true;
     for h in 0..count {
@@ -30,15 +23,15 @@ fn none_waits<const N: usize>(
 }
 
 // Controller c is STARTED, or no frame waits for it.
-fn started_or_none<const N: usize>(
-    owners: &Owners<N>,
-    mailboxes: &Mailboxes<N>,
+fn started_or_none<W: OwnerList, M: MailboxList>(
+    owners: &W,
+    mailboxes: &M,
     count: usize,
     mode: u8,
     c: u8,
 ) -> bool
-    requires { count ≤ N }
-    ensures { result ≡ tests.started_or_none owners.now mailboxes.now count mode c }
+    requires { (count ≤ W.size owners.now) × (count ≤ M.size mailboxes.now) }
+    ensures { result ≡ tests.started_or_none (W.places owners.now) (M.places mailboxes.now) count mode c }
 {
     if mode == STARTED {
         true
@@ -49,17 +42,17 @@ fn started_or_none<const N: usize>(
 
 // So it is of every controller in use; one past the 256th owns nothing, since an owner is a byte.
 #[tactic(auto, using(crate::proofs::Laws::all_below_more), unfolding(rules::specs::Repeat::all_below))]
-pub fn waiting_started<const C: usize, const O: usize>(
+pub fn waiting_started<K: ControllerList, W: OwnerList, M: MailboxList>(
     controller_count: usize,
-    controllers: &Controllers<C>,
-    owners: &Owners<O>,
-    mailboxes: &Mailboxes<O>,
+    controllers: &K,
+    owners: &W,
+    mailboxes: &M,
     count: usize,
 ) -> bool
-    requires { (controller_count ≤ C) × (count ≤ O) }
+    requires { (controller_count ≤ K.size controllers.now) × (count ≤ W.size owners.now) × (count ≤ M.size mailboxes.now) }
     ensures { result
-        ≡ tests.waiting_started (min controller_count 256) controllers.now owners.now
-        mailboxes.now count }
+        ≡ tests.waiting_started (min controller_count 256) (K.places controllers.now) (W.places owners.now)
+        (M.places mailboxes.now) count }
 {
     let end = limited(controller_count, 256);
     let mut ok = true;

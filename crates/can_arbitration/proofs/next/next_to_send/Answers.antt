@@ -1,5 +1,6 @@
 -- The gate is the rules', what it lets pass has room, and the choice on the core is lifted to the state.
 use mathlib.Core.Path.{◌≡◌, sym, ◌∙◌}
+use native.Mathlib.Omega.{arith}
 use Rattle.rules.specs.Outcome.{ram_gate}
 use Rattle.rules.specs.Calls.{next_to_send}
 use Rattle.rules.specs.Can.{can_format}
@@ -14,7 +15,10 @@ next_lent-requires c =
     let state = c.args.state in
     let ram = c.args.ram.now in
     let gate_is = ram_gate_is state c.valid.ensures ram c.ram_gate-gate.ensures in
-    λ none. let passed = ram_passed state ram (sym gate_is ∙ none) in record { objects_fit = passed.0.objects; ram_whole = passed.1 }
+    record {
+      room = λ none. let passed = ram_passed state ram (sym gate_is ∙ none) in record { objects_fit = rw (← c.state.view_is) at passed.0.objects; ram_whole = passed.1 };
+      readable = λ none. let few = (ram_passed state ram (sym gate_is ∙ none)).0.objects in let held = rw (← c.state.view_is) at few in omega (arith, held);
+    }
 
 pub returns : goal.returns
 unfolding next_to_send
@@ -22,4 +26,5 @@ returns c =
     let state = c.args.state in
     let ram = c.args.ram.now in
     let gate_is : verdict_reason c.ram_gate-gate.result ≡ ram_gate chip can_format (view state) ram = ram_gate_is state c.valid.ensures ram c.ram_gate-gate.ensures in
-    lifted_performed (view state) (rw gate_is at c.next_lent.ensures)
+    rw (← c.state.view_is)
+    (lifted_performed (view (record { core = c.state.inside.core; settings = c.state.inside.settings })) (rw (rw (← c.state.view_is) at gate_is) at c.next_lent.ensures))

@@ -3,4 +3,4 @@ use Rattle.can_calls.proofs.Laws.{answered}
 use Rattle.can_calls.proofs.perform.get.Goals as goal
 
 pub returns : goal.returns
-returns c = answered _ _ c.answered.ensures c.question_answer.ensures c.ask-asked.ensures
+returns c = answered _ _ (rw (← c.asked.view_is) at c.answered.ensures) c.question_answer.ensures (rw (← c.asked.view_is) at c.ask-asked.ensures)

@@ -3,4 +3,4 @@ use Rattle.can_calls.proofs.Laws.{answered}
 use Rattle.can_calls.proofs.perform.write.Goals as goal
 
 pub returns : goal.returns
-returns c = answered _ _ c.answered.ensures c.write_answer.ensures c.write-written.ensures
+returns c = answered _ _ (rw (← c.written.view_is) at c.answered.ensures) c.write_answer.ensures (rw (← c.written.view_is) at c.write-written.ensures)

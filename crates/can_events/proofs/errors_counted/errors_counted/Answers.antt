@@ -16,13 +16,11 @@ pub errors_counted-reported-requires : goal.errors_counted-reported-requires
 errors_counted-reported-requires c =
     let state = c.args.state in
     let words = length c.args.sheet.now in
-    let gate_is = sheet_gate_is state c.valid.ensures words c.sheet_gate-gate.ensures in (
-      omega arith,
-      λ none.
-          let few = (sheet_passed state words (sym gate_is ∙ none)).controllers in
-          let room = sheet_room state words (sym gate_is ∙ none) in
-          (few, omega arith),
-    )
+    let gate_is = sheet_gate_is state c.valid.ensures words c.sheet_gate-gate.ensures in
+    λ none.
+    let few = rw (← c.next.view_is) at (sheet_passed state words (sym gate_is ∙ none)).controllers in
+    let room = sheet_room state words (sym gate_is ∙ none) in
+    (few, few, omega arith)
 
 pub returns : goal.returns
 unfolding errors_counted
@@ -30,4 +28,5 @@ returns c =
     let state = c.args.state in
     let words = length c.args.sheet.now in
     let gate_is : verdict_reason c.sheet_gate-gate.result ≡ sheet_gate chip can_format (view state) words = sheet_gate_is state c.valid.ensures words c.sheet_gate-gate.ensures in
-    lifted_performed (view state) (rw gate_is at (c.errors_counted-reported.ensures []))
+    rw (← c.next.view_is)
+    (lifted_performed (view (record { core = c.next.inside.core; settings = c.next.inside.settings })) (rw (rw (← c.next.view_is) at gate_is) at (c.errors_counted-reported.ensures.performed [])))

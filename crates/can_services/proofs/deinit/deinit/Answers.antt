@@ -38,8 +38,10 @@ returns-in-Ok c =
     let sheet : List ℕ = c.args.sheet.now in
     let ram : List ℕ = c.args.ram.now in
     let own : ℕ = first_reason (rules.deinit_checks (view state).core) in
+    let started_is : c.some_started-started.result ≡ rules.some_started state.core = rw (← c.state.view_is) c.some_started-started.ensures in
+    let judged_so : verdict_reason c.judge_deinit.result ≡ first_reason (deinit_checks state.core.initialised c.some_started-started.result) = rw (← c.state-2.view_is, ← c.state-inside.view_is) c.judge_deinit.ensures in
     let own_is : verdict_reason c.judge_deinit.result ≡ own =
-    c.judge_deinit.ensures ∙ ap (λ (started : Bool). first_reason (deinit_checks state.core.initialised started)) c.some_started-started.ensures in
+    judged_so ∙ ap (λ (started : Bool). first_reason (deinit_checks state.core.initialised started)) started_is in
     let found : verdict_reason c.and.result ≡ (full_gate chip can_format (view state) (length sheet) ram then own) = let gate = full_gate_is state c.valid.ensures (length sheet) ram c.full_gate-gate.ensures in
     behind _ _ c.and.ensures gate own_is in
     let none = sym (ap verdict_reason c.in-Ok.is) ∙ found in
@@ -52,8 +54,10 @@ returns-in-Err c =
     let sheet : List ℕ = c.args.sheet.now in
     let ram : List ℕ = c.args.ram.now in
     let own : ℕ = first_reason (rules.deinit_checks (view state).core) in
+    let started_is : c.some_started-started.result ≡ rules.some_started state.core = rw (← c.state.view_is) c.some_started-started.ensures in
+    let judged_so : verdict_reason c.judge_deinit.result ≡ first_reason (deinit_checks state.core.initialised c.some_started-started.result) = rw (← c.state-2.view_is, ← c.state-inside.view_is) c.judge_deinit.ensures in
     let own_is : verdict_reason c.judge_deinit.result ≡ own =
-    c.judge_deinit.ensures ∙ ap (λ (started : Bool). first_reason (deinit_checks state.core.initialised started)) c.some_started-started.ensures in
+    judged_so ∙ ap (λ (started : Bool). first_reason (deinit_checks state.core.initialised started)) started_is in
     let found : verdict_reason c.and.result ≡ (full_gate chip can_format (view state) (length sheet) ram then own) = let gate = full_gate_is state c.valid.ensures (length sheet) ram c.full_gate-gate.ensures in
     behind _ _ c.and.ensures gate own_is in
     refused_call DEINIT state ram sheet own _ (sym (ap verdict_reason c.in-Err.is) ∙ found) c.refused.ensures

@@ -42,8 +42,9 @@ returns-in-Ok c =
     let ram : List ℕ = c.args.ram.now in
     let bytes : List ℕ = c.args.bytes.now in
     let own : ℕ = first_reason (rules.init_checks chip can_format (view state) bytes) in
+    let own_is : verdict_reason c.judge_init.result ≡ own = rw (← c.state.view_is, ← c.core.view_is) c.judge_init.ensures.reason in
     let found : verdict_reason c.and.result ≡ (full_gate chip can_format (view state) (length sheet) ram then own) =
-    behind _ _ c.and.ensures (full_gate_is state c.valid.ensures (length sheet) ram c.full_gate-gate.ensures) c.judge_init.ensures.reason in
+    behind _ _ c.and.ensures (full_gate_is state c.valid.ensures (length sheet) ram c.full_gate-gate.ensures) own_is in
     let setup = IfOk-at_ok (λ (s : Setup). view_setup s ≡ configuration_of chip can_format bytes) (second_passed c.full_gate-gate.result c.judge_init.result (sym c.and.ensures ∙ c.in-Ok.is)) c.judge_init.ensures.setup in
     accepted_call INIT state ram sheet own (configured_state chip can_format (configuration_of chip can_format bytes)) (sym (ap verdict_reason c.in-Ok.is) ∙ found)
     (c.configured_state.ensures ∙ ap (λ (cfg : Configuration can_format). configured_state chip can_format cfg) setup) c.clear.ensures
@@ -55,6 +56,7 @@ returns-in-Err c =
     let sheet : List ℕ = c.args.sheet.now in
     let ram : List ℕ = c.args.ram.now in
     let own : ℕ = first_reason (rules.init_checks chip can_format (view state) c.args.bytes.now) in
+    let own_is : verdict_reason c.judge_init.result ≡ own = rw (← c.state.view_is, ← c.core.view_is) c.judge_init.ensures.reason in
     let found : verdict_reason c.and.result ≡ (full_gate chip can_format (view state) (length sheet) ram then own) =
-    behind _ _ c.and.ensures (full_gate_is state c.valid.ensures (length sheet) ram c.full_gate-gate.ensures) c.judge_init.ensures.reason in
+    behind _ _ c.and.ensures (full_gate_is state c.valid.ensures (length sheet) ram c.full_gate-gate.ensures) own_is in
     refused_call INIT state ram sheet own _ (sym (ap verdict_reason c.in-Err.is) ∙ found) c.refused.ensures

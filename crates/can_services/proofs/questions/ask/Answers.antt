@@ -18,7 +18,7 @@ use Rattle.can_state.proofs.Gates.{sheet_gate_is, lifted_performed}
 use Rattle.can_services.proofs.questions.ask.Goals as goal
 
 pub ask_controller-reported-requires : goal.ask_controller-reported-requires
-ask_controller-reported-requires c = (omega arith, gate_room (not c.valid.result) (sheet_size chip) c.args.sheet.now [] (omega arith) c.sheet_gate-gate.ensures)
+ask_controller-reported-requires c = gate_room (not c.valid.result) (sheet_size chip) c.args.sheet.now [] (omega arith) c.sheet_gate-gate.ensures
 
 pub returns : goal.returns
 unfolding ask_controller
@@ -26,4 +26,5 @@ returns c =
     let state : State = c.args.state in
     let sheet : List ℕ = c.args.sheet.now in
     let gate_is : verdict_reason c.sheet_gate-gate.result ≡ sheet_gate chip can_format (view state) (length sheet) = sheet_gate_is state c.valid.ensures (length sheet) c.sheet_gate-gate.ensures in
-    lifted_performed (view state) (rw gate_is at (c.ask_controller-reported.ensures []))
+    rw (← c.state.view_is)
+    (lifted_performed (view (record { core = c.state.inside.core; settings = c.state.inside.settings })) (rw (rw (← c.state.view_is) at gate_is) at (c.ask_controller-reported.ensures [])))

@@ -22,7 +22,7 @@ set_controller_mode-reported-requires c =
     let state : State = c.args.state in
     let sheet : List ℕ = c.args.sheet.now in
     let gate_is : verdict_reason c.sheet_gate-gate.result ≡ sheet_gate chip can_format (view state) (length sheet) = sheet_gate_is state c.valid.ensures (length sheet) c.sheet_gate-gate.ensures in
-    (omega arith, (λ none. (sheet_passed state (length sheet) (sym gate_is ∙ none)).controllers, gate_room (not c.valid.result) (sheet_size chip) sheet [] (omega arith) c.sheet_gate-gate.ensures))
+    (λ none. rw (← c.next.view_is) at (sheet_passed state (length sheet) (sym gate_is ∙ none)).controllers, gate_room (not c.valid.result) (sheet_size chip) sheet [] (omega arith) c.sheet_gate-gate.ensures)
 
 pub returns : goal.returns
 unfolding set_controller_mode
@@ -30,4 +30,5 @@ returns c =
     let state : State = c.args.state in
     let sheet : List ℕ = c.args.sheet.now in
     let gate_is : verdict_reason c.sheet_gate-gate.result ≡ sheet_gate chip can_format (view state) (length sheet) = sheet_gate_is state c.valid.ensures (length sheet) c.sheet_gate-gate.ensures in
-    lifted_performed (view state) (rw gate_is at (c.set_controller_mode-reported.ensures []))
+    rw (← c.next.view_is)
+    (lifted_performed (view (record { core = c.next.inside.core; settings = c.next.inside.settings })) (rw (rw (← c.next.view_is) at gate_is) at (c.set_controller_mode-reported.ensures.performed [])))

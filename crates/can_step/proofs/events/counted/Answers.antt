@@ -1,5 +1,4 @@
 -- The gate is the rules', what it lets pass has places and room, and the core's event is lifted to the state.
-use Rattle.std.proofs.Common.{rules}
 use mathlib.Core.Path.{sym, ◌∙◌}
 use native.Mathlib.Omega.{arith}
 use lib.ListN.{length}
@@ -14,11 +13,12 @@ errors_counted-requires c =
     let state = c.args.state.now in
     let sheet = length c.args.sheet.now in
     let gate = sheet_gate_is state (sym c.requires) sheet c.sheet_gate-gate.ensures in
-    (search rules, λ none. let room = sheet_room state sheet (sym gate ∙ none) in ((within state c.requires).controllers, omega arith))
+    λ none. let room = sheet_room state sheet (sym gate ∙ none) in let few = rw (← c.state.view_is) at (within state c.requires).controllers in (few, few, omega arith)
 
 pub returns : goal.returns
 unfolding errors_counted
 returns c ram =
     let state = c.args.state.now in
     let gate = sheet_gate_is state (sym c.requires) (length c.args.sheet.now) c.sheet_gate-gate.ensures in
-    left_is (lifted_performed (view state) (rw gate at (c.errors_counted.ensures ram)))
+    rw (← c.state.view_is)
+    (left_is (lifted_performed (view (record { core = c.state.inside.core; settings = c.state.inside.settings })) (rw (rw (← c.state.view_is) at gate) at (c.errors_counted.ensures.performed ram))))

@@ -1,5 +1,4 @@
 -- The gate is the rules', a valid state has no more in use than there are places, and the core's event is lifted to the state.
-use Rattle.std.proofs.Common.{rules}
 use mathlib.Core.Path.{sym}
 use Rattle.rules.specs.Calls.{tx_complete}
 use Rattle.can_state.specs.View.{view}
@@ -8,11 +7,12 @@ use Rattle.can_step.proofs.Gates.{left_quiet}
 use Rattle.can_step.proofs.events.sent.Goals as goal
 
 pub tx_complete-requires : goal.tx_complete-requires
-tx_complete-requires c = (search rules, λ none. (within c.args.state.now c.requires).objects)
+tx_complete-requires c = λ none. rw (← c.state.view_is) at (within c.args.state.now c.requires).objects
 
 pub returns : goal.returns
 unfolding tx_complete
 returns c ram sheet =
     let state = c.args.state.now in
     let gate = state_gate_is state (sym c.requires) c.state_gate-gate.ensures in
-    left_quiet (lifted_performed (view state) (rw gate at (c.tx_complete.ensures ram))) sheet
+    rw (← c.state.view_is)
+    (left_quiet (lifted_performed (view (record { core = c.state.inside.core; settings = c.state.inside.settings })) (rw (rw (← c.state.view_is) at gate) at (c.tx_complete.ensures.performed ram))) sheet)

@@ -13,14 +13,20 @@ use Rattle.can_step.proofs.frames.write.Goals as goal
 pub write_lent-requires : goal.write_lent-requires
 write_lent-requires c =
     let a = c.args in
-    let gate = full_gate_is a.state.now (sym c.requires) (length a.sheet.now) a.ram.now c.full_gate-gate.ensures in (
-      gate_room _ (sheet_size chip) a.sheet.now _ (omega arith) c.full_gate-gate.ensures,
-      λ none. let room = passed a.state.now (length a.sheet.now) a.ram.now (sym gate ∙ none) in record { objects_fit = room.places.objects; ram_whole = room.ram_whole },
-    )
+    let gate = full_gate_is a.state.now (sym c.requires) (length a.sheet.now) a.ram.now c.full_gate-gate.ensures in
+    record {
+      room = (
+        gate_room _ (sheet_size chip) a.sheet.now _ (omega arith) c.full_gate-gate.ensures,
+        λ none.
+            let room = passed a.state.now (length a.sheet.now) a.ram.now (sym gate ∙ none) in
+            record { objects_fit = rw (← c.state.view_is) at room.places.objects; ram_whole = room.ram_whole },
+      );
+      places = (omega arith, λ none. let room = passed a.state.now (length a.sheet.now) a.ram.now (sym gate ∙ none) in rw (← c.state.view_is) at room.places.objects);
+    }
 
 pub returns : goal.returns
 unfolding write
 returns c =
     let a = c.args in
     let gate = full_gate_is a.state.now (sym c.requires) (length a.sheet.now) a.ram.now c.full_gate-gate.ensures in
-    left_is (rw gate at c.write_lent.ensures)
+    rw (← c.state.view_is) (left_is (rw (rw (← c.state.view_is) at gate) at c.write_lent.ensures.performed))

@@ -6,16 +6,16 @@ use mathlib.Core.Bool.{Bool, not}
 use mathlib.Core.List.{List, [], ◌∷◌}
 use native.Mathlib.Omega.{arith}
 use lib.Dec.{ltb}
+use lib.ListN.{set}
 use borrow.Author.Tests.{ltb-true}
 use Rattle.rules.specs.Reason.{Check, ◌if◌, first_reason, ◌then◌, reasons_named, ERROR_COUNT_TOO_LARGE}
 use Rattle.rules.specs.Errors.{Errors, within_limit}
-use Rattle.rules.specs.Core.{Controller, with_controllers, with_errors}
+use Rattle.rules.specs.Core.{Controller, Core, with_controllers, with_errors}
 use Rattle.rules.specs.Outcome.{no_answer, no_report}
 use Rattle.rules.specs.Events.{errors_counted, counted_controller, counted_errors}
 use Rattle.laws.proofs.Tests.{not_false}
 use Rattle.laws.proofs.Reasons.{then_first, then_second, check_passed}
-use Rattle.core_places.specs.View.{view_controller, view_core}
-use Rattle.core_places.proofs.Laws.{controller_changed, errors_changed}
+use Rattle.core_places.specs.View.{view_controller}
 use Rattle.core_answers.specs.Answer.{verdict_reason}
 use Rattle.core_answers.proofs.Laws.{behind, reason_named, noted_none, told_performed, refused_performed}
 use Rattle.core_events.specs.Checks.{on_bus_checks}
@@ -40,45 +40,43 @@ passed gate transmit receive c count initialised k none =
 pub report_passive-notifications-requires : goal.report_passive-notifications-requires
 report_passive-notifications-requires g c =
     let a = c.args in
-    let core = a.core.now in
     let found = behind _ _ c.and.ensures refl (behind _ _ c.and-own.ensures c.judge_on_bus.ensures c.judge_counts.ensures) in
-    let none = passed (verdict_reason a.gate) a.transmit a.receive a.controller core.controller_count core.initialised (view_controller c.at-k.result) (sym found ∙ ap verdict_reason c.in-Ok.is) in
-    (c.requires none.0).1
+    let none = passed (verdict_reason a.gate) a.transmit a.receive a.controller c.controller_count.result c.initialised.result (view_controller c.controller-k.result) (sym found ∙ ap verdict_reason c.in-Ok.is) in
+    (c.requires none.0).2
 
-pub set-requires : goal.set-requires
-set-requires g c =
+pub set_controller-requires : goal.set_controller-requires
+set_controller-requires g c =
     let a = c.args in
-    let core = a.core.now in
     let found = behind _ _ c.and.ensures refl (behind _ _ c.and-own.ensures c.judge_on_bus.ensures c.judge_counts.ensures) in
-    let none = passed (verdict_reason a.gate) a.transmit a.receive a.controller core.controller_count core.initialised (view_controller c.at-k.result) (sym found ∙ ap verdict_reason c.in-Ok.is) in
-    (omega arith, omega (arith, none.1, (c.requires none.0).0))
+    let none = passed (verdict_reason a.gate) a.transmit a.receive a.controller c.controller_count.result c.initialised.result (view_controller c.controller-k.result) (sym found ∙ ap verdict_reason c.in-Ok.is) in
+    omega (arith, c.controller_count.ensures, none.1, (c.requires none.0).0)
 
-pub set-requires-in-Ok : goal.set-requires-in-Ok
-set-requires-in-Ok g c =
+pub set_errors-requires : goal.set_errors-requires
+set_errors-requires g c =
     let a = c.args in
-    let core = a.core.now in
     let found = behind _ _ c.and.ensures refl (behind _ _ c.and-own.ensures c.judge_on_bus.ensures c.judge_counts.ensures) in
-    let none = passed (verdict_reason a.gate) a.transmit a.receive a.controller core.controller_count core.initialised (view_controller c.at-k.result) (sym found ∙ ap verdict_reason c.in-Ok.is) in
-    (omega arith, omega (arith, none.1, (c.requires none.0).0))
+    let none = passed (verdict_reason a.gate) a.transmit a.receive a.controller c.controller_count.result c.initialised.result (view_controller c.controller-k.result) (sym found ∙ ap verdict_reason c.in-Ok.is) in
+    omega (arith, c.controller_count.ensures, none.1, (c.requires none.0).1, c.set_controller.ensures.places.2)
 
-pub returns-in-Ok : goal.returns-in-Ok
+pub returns-in-Ok-clause-performed : goal.returns-in-Ok-clause-performed
 unfolding errors_counted
-returns-in-Ok g c ram =
+returns-in-Ok-clause-performed g c ram =
     let a = c.args in
-    let core = view_core a.core.now in
-    let k = c.at-k.ensures in
-    let e = c.at-e.ensures in
-    let found = behind _ _ c.and.ensures refl (behind _ _ c.and-own.ensures (c.judge_on_bus.ensures ∙ on_bus_read core a.controller k) c.judge_counts.ensures) in
+    let core = g.K.CorePlaces.core a.core.now in
+    let k = c.controller-k.ensures in
+    let e = c.error_place-e.ensures in
+    let found = behind _ _ c.and.ensures refl (behind _ _ c.and-own.ensures (c.judge_on_bus.ensures ∙ on_bus_read core a.controller c.initialised.ensures c.controller_count.ensures k) c.judge_counts.ensures) in
     told_performed _ no_report no_answer core ram no_answer _ ram _ (sym (ap verdict_reason c.in-Ok.is) ∙ found) refl refl
-    (ap₂ (λ (ks : List Controller) (es : List Errors). with_errors (with_controllers core ks) es)
-    (controller_changed (counted_controller a.transmit) a.controller refl k c.counted_controller.ensures c.set.ensures)
-    (errors_changed (counted_errors a.transmit a.receive) a.controller refl e c.counted_errors.ensures c.set-in-Ok.ensures))
+    (c.set_errors.ensures.core
+    ∙ ap₂ (λ (s : Core) (x : Errors). with_errors s (set s.errors a.controller x))
+    (c.set_controller.ensures.core ∙ ap (λ (k : Controller). with_controllers core (set core.controllers a.controller k)) (c.counted_controller.ensures ∙ ap (counted_controller a.transmit) k))
+    (c.counted_errors.ensures ∙ ap (counted_errors a.transmit a.receive) e))
     refl (rw (← k, ← e) c.report_passive-notifications.ensures)
 
-pub returns-in-Err : goal.returns-in-Err
+pub returns-in-Err-clause-performed : goal.returns-in-Err-clause-performed
 unfolding errors_counted
-returns-in-Err g c ram =
+returns-in-Err-clause-performed g c ram =
     let a = c.args in
-    let core = view_core a.core.now in
-    let found = behind _ _ c.and.ensures refl (behind _ _ c.and-own.ensures (c.judge_on_bus.ensures ∙ on_bus_read core a.controller c.at-k.ensures) c.judge_counts.ensures) in
+    let core = g.K.CorePlaces.core a.core.now in
+    let found = behind _ _ c.and.ensures refl (behind _ _ c.and-own.ensures (c.judge_on_bus.ensures ∙ on_bus_read core a.controller c.initialised.ensures c.controller_count.ensures c.controller-k.ensures) c.judge_counts.ensures) in
     refused_performed _ no_report no_answer core ram _ (sym (ap verdict_reason c.in-Err.is) ∙ found) (reason_named _) refl (noted_none a.sheet.now)

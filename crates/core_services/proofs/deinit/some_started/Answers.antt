@@ -11,10 +11,10 @@ use Rattle.core_services.proofs.deinit.some_started.Goals as goal
 pub returns : goal.returns
 returns g c =
     let at = c.loop-c in
-    let core = c.args.core.now in
+    let core = g.K.CorePlaces.core c.args.core.now in
     let ks = core.controllers in
     let rests : ℕ → Bool = λ i. not (is_started (controller_at ks i)) in
-    let end : at.c ≡ min core.controller_count (length ks) = omega (arith, c.len.ensures.number, c.len.ensures.places, c.limited-end.ensures) in
+    let end : at.c ≡ min core.controller_count (length ks) = omega (arith, c.controller_count.ensures, c.controller_places.ensures, c.limited-end.ensures) in
     ap not
     (at.invariant
     ∙ sym

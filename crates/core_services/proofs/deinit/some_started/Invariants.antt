@@ -6,4 +6,4 @@ use Rattle.rules.specs.Core.{controller_at, is_started}
 use Rattle.core_services.proofs.deinit.some_started.Given as goal
 
 abbrev pub invariant-loop-c : goal.invariant-loop-c
-invariant-loop-c g l = l.none ≡ all_below l.c (λ c. not (is_started (controller_at l.core.controllers c)))
+invariant-loop-c g l = l.none ≡ all_below l.c (λ c. not (is_started (controller_at (g.K.CorePlaces.core l.core).controllers c)))

@@ -1,6 +1,5 @@
 -- What is due is busy, so that there is room for its notification.
 use mathlib.Core.Path.{ap, sym, ◌∙◌}
-use Rattle.std.proofs.Common.{rules}
 use Rattle.rules.specs.Core.{Owner}
 use Rattle.laws.proofs.Bounds.{mailbox_busy}
 use Rattle.core_sweeps.proofs.Visits.{visit_frees}
@@ -9,6 +8,7 @@ use Rattle.core_sweeps.proofs.objects.visit_one.Goals as goal
 pub free_object-requires : goal.free_object-requires
 free_object-requires g c =
     let a = c.args in
-    let due = sym (c.visit_due.ensures a.size a.two_bytes a.owners.now a.ram.now a.object (sym (ap (λ (o : Owner). o.controller) c.read.ensures))) ∙ c.if-visit_due.true in
-    let busy = sym (ap mailbox_busy c.read-m.ensures) ∙ visit_frees a.visit a.size a.two_bytes a.owners.now a.ram.now a.object _ due in
-    (search rules, (c.requires.object_in_bounds, c.requires.sheet_room busy))
+    let core = g.K.CorePlaces.core a.core.now in
+    let due = sym (c.visit_due.ensures a.size a.two_bytes core.owners a.ram.now a.object (sym (ap (λ (o : Owner). o.controller) c.read_owner.ensures))) ∙ c.if-visit_due.true in
+    let busy = sym (ap mailbox_busy c.read_mailbox-m.ensures) ∙ visit_frees a.visit a.size a.two_bytes core.owners a.ram.now a.object _ due in
+    record { object_in_bounds = c.requires.object_in_bounds; sheet_room = c.requires.sheet_room busy }

@@ -4,5 +4,5 @@ use Rattle.core_validity.proofs.errors.errors_places_valid.Goals as goal
 
 pub returns : goal.returns
 returns g c =
-    rw (c.errors_suit-suit.ensures, c.errors_rest-rest.ensures, c.limited-end.ensures, c.len.ensures.number)
-    (all_errors_parts g.row.N c.args.controller_count c.args.controllers.now c.args.errors.now c.len.ensures.places)
+    rw (c.errors_suit-suit.ensures, c.errors_rest-rest.ensures, c.limited-end.ensures, c.len.ensures.number, ← c.requires)
+    (all_errors_parts (g.E.ErrorList.size c.args.errors.now) c.args.controller_count (g.K.ControllerList.places c.args.controllers.now) (g.E.ErrorList.places c.args.errors.now) c.len.ensures.places)

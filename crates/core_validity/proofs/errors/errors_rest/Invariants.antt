@@ -6,4 +6,4 @@ use Rattle.core_validity.specs.Tests.{all_from}
 use Rattle.core_validity.proofs.errors.errors_rest.Given as goal
 
 abbrev pub invariant-loop-c : goal.invariant-loop-c
-invariant-loop-c g l = l.ok ≡ all_from l.c l.count (λ i. errors_none (errors_at l.errors i))
+invariant-loop-c g l = l.ok ≡ all_from l.c l.count (λ i. errors_none (errors_at (g.E.ErrorList.places l.errors) i))

@@ -6,4 +6,4 @@ use Rattle.core_validity.specs.Tests.{all_from}
 use Rattle.core_validity.proofs.objects.objects_unused.Given as goal
 
 abbrev pub invariant-loop-h : goal.invariant-loop-h
-invariant-loop-h g l = l.ok ≡ all_from l.h l.count (λ i. owner_unused (owner_at l.owners i) && mailbox_empty (mailbox_at l.mailboxes i))
+invariant-loop-h g l = l.ok ≡ all_from l.h l.count (λ i. owner_unused (owner_at (g.W.OwnerList.places l.owners) i) && mailbox_empty (mailbox_at (g.M.MailboxList.places l.mailboxes) i))

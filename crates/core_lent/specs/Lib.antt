@@ -1,0 +1,2 @@
+-- A core of which a caller holds some arrays.
+pub mod Seen

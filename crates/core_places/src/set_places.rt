@@ -1,0 +1,34 @@
+// Places of a core that a call may set: a trait for each kind, so that a caller lends to be read what a call does not set.
+ghost use Rattle.std.specs.Prelude.{◌≡◌, ◌<◌, set};
+ghost use Rattle.rules.specs.Core as rules;
+ghost use Rattle.core_places.specs.View.{view_controller, view_errors, view_mailbox};
+ghost use Rattle.core_places.specs.Names.{SameNames};
+
+use crate::controller::Controller;
+use crate::errors::Errors;
+use crate::mailbox::Mailbox;
+use crate::places::CorePlaces;
+
+pub trait SetControllers: CorePlaces {
+    fn set_controller(&mut self, c: usize, k: Controller)
+        requires { c < Self.controllers self.old }
+        ensures core { Self.core self.new ≡ rules.with_controllers (Self.core self.old) (set (Self.core self.old).controllers c (view_controller k)) }
+        ensures places { (Self.controllers self.new ≡ Self.controllers self.old) × (Self.objects self.new ≡ Self.objects self.old) × (Self.error_places self.new ≡ Self.error_places self.old) }
+        ensures memory { SameNames (Self.memory self.new) (Self.memory self.old) };
+}
+
+pub trait SetErrors: CorePlaces {
+    fn set_errors(&mut self, c: usize, e: Errors)
+        requires { c < Self.error_places self.old }
+        ensures core { Self.core self.new ≡ rules.with_errors (Self.core self.old) (set (Self.core self.old).errors c (view_errors e)) }
+        ensures places { (Self.controllers self.new ≡ Self.controllers self.old) × (Self.objects self.new ≡ Self.objects self.old) × (Self.error_places self.new ≡ Self.error_places self.old) }
+        ensures memory { SameNames (Self.memory self.new) (Self.memory self.old) };
+}
+
+pub trait SetMailboxes: CorePlaces {
+    fn set_mailbox(&mut self, h: usize, m: Mailbox)
+        requires { h < Self.objects self.old }
+        ensures core { Self.core self.new ≡ rules.with_mailboxes (Self.core self.old) (set (Self.core self.old).mailboxes h (view_mailbox m)) }
+        ensures places { (Self.controllers self.new ≡ Self.controllers self.old) × (Self.objects self.new ≡ Self.objects self.old) × (Self.error_places self.new ≡ Self.error_places self.old) }
+        ensures memory { SameNames (Self.memory self.new) (Self.memory self.old) };
+}
