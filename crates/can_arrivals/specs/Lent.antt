@@ -1,4 +1,4 @@
--- Arrived over a lent state: the room that it needs once its gate lets it pass.
+-- Arrived, wherever the places stand: the room that it needs once its gate lets it pass.
 use Rattle.std.specs.Prelude.{ℕ, ◌≤◌, ◌≡◌, List, length}
 use Rattle.rules.specs.Limits.{ram_size}
 use Rattle.rules.specs.Chip.{chip}

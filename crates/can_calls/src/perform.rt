@@ -13,6 +13,7 @@ ghost use Rattle.can_calls.specs.Request.{handle, frame, outcome, kind, SERVICE,
 use crate::answer::{Answer, arrival_answer, next_answer, question_answer, write_answer};
 use crate::request::{Function, Request};
 use can::{Called, Question, State, Verdict};
+use std::marker::Model;
 
 // What came of a call.
 #[derive(Clone, Copy)]
@@ -21,6 +22,27 @@ pub struct Played {
     pub verdict: Verdict,
     pub answer: Answer,
     pub notifications: usize,
+}
+
+// The model forgets nothing, so that one value can go into two calls.
+impl Model for Played {
+    ghost use Rattle.can_calls.specs.Came.{Came};
+
+    ghost Value = { Came };
+
+    ghost view = { λ a. record {
+      state = a.state;
+      verdict = a.verdict;
+      answer = a.answer;
+      notifications = a.notifications;
+    } };
+
+    ghost inverse = { λ p. record {
+      state = p.state;
+      verdict = p.verdict;
+      answer = p.answer;
+      notifications = p.notifications;
+    } };
 }
 
 // What came of a call that answers this.

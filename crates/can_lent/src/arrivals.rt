@@ -1,4 +1,4 @@
-// Arrived, to a caller who reads the controllers, the objects' controllers and kinds, and the settings.
+// Arrived, for a caller who reads the controllers, the objects' controllers and kinds, and the settings.
 ghost use Rattle.std.specs.Prelude.{◌≡◌, ◌≤◌, ◌^◌, false, length, List, ℕ, []};
 ghost use Rattle.rules.specs.Calls as rules;
 ghost use Rattle.rules.specs.Can.{can_format, longest_fd};

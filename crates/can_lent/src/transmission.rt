@@ -1,4 +1,4 @@
-// Write, to a caller who reads the controllers and the owners, has the settings of the object that is named, and of the others the padding values.
+// Write, for a caller who reads the controllers and the owners, and has the settings of the object that is named and the padding values of the others.
 ghost use Rattle.std.specs.Prelude.{◌≡◌, length, []};
 ghost use Rattle.rules.specs.Calls.{written};
 ghost use Rattle.rules.specs.Can.{can_format};

@@ -8,7 +8,7 @@ use Rattle.can_state.specs.declared.settings.Settings.{Settings}
 abbrev pub view_settings : Settings → can.Settings
 view_settings s = record { payload = s.payload; padding = s.padding; code = s.code; mask = s.mask }
 
--- a state is seen so by its model
+-- clauses see a state as its model shows it (`state_seen`)
 abbrev pub view : rules.State can.can_format → rules.State can.can_format
 view s = s
 

@@ -29,6 +29,7 @@ pub fn bus_off_detected<K: SetControllers>(gate: Verdict, core: &mut K, controll
     ensures performed { (ram : List ℕ)
         → Performed (rules.bus_off_detected (verdict_reason gate) (K.core core.old) ram controller)
         (verdict_reason result) no_answer (K.core core.new) 0 ram [] [] }
+    ensures places { (K.controllers core.new ≡ K.controllers core.old) × (K.objects core.new ≡ K.objects core.old) × (K.error_places core.new ≡ K.error_places core.old) }
     ensures memory { SameNames (K.memory core.new) (K.memory core.old) }
 {
     let c = controller as usize;

@@ -27,6 +27,7 @@ pub fn errors_counted<K: SetControllers + SetErrors>(
     ensures performed { (ram : List ℕ)
         → Performed (rules.errors_counted (verdict_reason gate) (K.core core.old) ram controller transmit receive)
         (verdict_reason result.reply) no_answer (K.core core.new) result.notifications ram sheet.old sheet.new }
+    ensures places { (K.controllers core.new ≡ K.controllers core.old) × (K.objects core.new ≡ K.objects core.old) × (K.error_places core.new ≡ K.error_places core.old) }
     ensures memory { SameNames (K.memory core.new) (K.memory core.old) }
 {
     let c = controller as usize;

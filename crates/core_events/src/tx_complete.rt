@@ -54,6 +54,7 @@ pub fn tx_complete<K: SetMailboxes>(gate: Verdict, core: &mut K, object: u32) ->
     ensures performed { (ram : List ℕ)
         → Performed (rules.tx_complete (verdict_reason gate) (K.core core.old) ram object)
         (verdict_reason result) no_answer (K.core core.new) 0 ram [] [] }
+    ensures places { (K.controllers core.new ≡ K.controllers core.old) × (K.objects core.new ≡ K.objects core.old) × (K.error_places core.new ≡ K.error_places core.old) }
     ensures memory { SameNames (K.memory core.new) (K.memory core.old) }
 {
     let h = object as usize;

@@ -1,4 +1,4 @@
--- A core that stands in arrays of the caller, as the rules see it: what is lent to be set has arrays that are alike in length.
+-- A core put together from lists of places.
 use Rattle.std.specs.Prelude.{ℕ, Bool, List}
 use Rattle.rules.specs.Errors.{Errors}
 use Rattle.rules.specs.Core.{Core, Controller, Owner, Mailbox}

@@ -13,7 +13,7 @@ use core_answers::verdict::Verdict;
 use core_places::lent_core::LentCore;
 use core_places::lent_mailboxes::LentMailboxes;
 
-// A bus-off, to a caller who has the controllers alone.
+// A bus-off, for a caller who has the controllers alone.
 pub fn off(
     gate: Verdict,
     initialised: bool,
@@ -48,7 +48,7 @@ pub fn off(
     core_events::bus_off_detected::bus_off_detected(gate, &mut core, controller)
 }
 
-// A frame that was sent, to a caller who reads the controllers, and the objects' controllers and kinds.
+// A frame that was sent, for a caller who reads the controllers, and the objects' controllers and kinds.
 pub fn sent(
     gate: Verdict,
     initialised: bool,
@@ -92,7 +92,7 @@ pub fn sent(
     core_events::tx_complete::tx_complete(gate, &mut core, object)
 }
 
-// Counted errors, to a caller who has the controllers and their errors.
+// Counted errors, for a caller who has the controllers and their errors.
 pub fn counted(
     gate: Verdict,
     initialised: bool,

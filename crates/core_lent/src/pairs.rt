@@ -1,4 +1,4 @@
-// The sweep and the pass over the errors, to a caller who has the two kinds of places that they look at, each in a struct of arrays.
+// The sweep and the pass over the errors, for a caller who has the two kinds of places that they look at, each in a struct of arrays.
 ghost use Rattle.std.specs.Prelude.{◌≡◌, ◌≤◌, ◌+◌, ◌*◌, length};
 ghost use Rattle.rules.specs.Polls as rules;
 ghost use Rattle.laws.proofs.Bounds.{busy_count};
@@ -16,7 +16,7 @@ use core_places::owners::Owners;
 use core_polls::turn::Turn;
 use core_sweeps::visit::Visit;
 
-// The sweep over the objects, to a caller who has their owners and their mailboxes.
+// The sweep over the objects, for a caller who has their owners and their mailboxes.
 pub fn visit_pair<const N: usize>(
     visit: Visit,
     count: usize,
@@ -38,7 +38,7 @@ pub fn visit_pair<const N: usize>(
     core_sweeps::objects::visit_all(visit, count, &mut core, from, size, two_bytes, ram, sheet)
 }
 
-// The pass over the errors, to a caller who has the controllers and their errors.
+// The pass over the errors, for a caller who has the controllers and their errors.
 pub fn errors_pair<const N: usize>(
     turn: Turn,
     total: usize,

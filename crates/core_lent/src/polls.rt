@@ -24,7 +24,7 @@ use core_places::lent_mailboxes::LentMailboxes;
 use core_polls::turn::Turn;
 use core_sweeps::visit::Visit;
 
-// The sweep over the objects, to a caller who has their controllers and their mailboxes.
+// The sweep over the objects, for a caller who has their controllers and their mailboxes.
 pub fn visit_all(
     visit: Visit,
     count: usize,
@@ -67,7 +67,7 @@ pub fn visit_all(
     core_sweeps::objects::visit_all(visit, count, &mut core, from, size, two_bytes, ram, sheet)
 }
 
-// The pass over the errors, to a caller who reads the controllers.
+// The pass over the errors, for a caller who reads the controllers.
 pub fn errors_all(
     turn: Turn,
     total: usize,
@@ -104,7 +104,7 @@ pub fn errors_all(
     core_polls::errors::errors_all(turn, total, &mut core);
 }
 
-// The turns of all controllers, to a caller who has them, the objects' controllers and the mailboxes.
+// The turns of all controllers, for a caller who has them, the objects' controllers and the mailboxes.
 pub fn turn_all(
     turn: Turn,
     total: usize,
@@ -155,7 +155,7 @@ pub fn turn_all(
     core_polls::controllers::turn_all(turn, &mut core, size, ram, sheet)
 }
 
-// A poll over the controllers, to a caller who has them, their errors, the objects' controllers and the mailboxes.
+// A poll over the controllers, for a caller who has them, their errors, the objects' controllers and the mailboxes.
 pub fn poll_controllers(
     gate: Verdict,
     initialised: bool,
@@ -224,7 +224,7 @@ pub fn poll_controllers(
     core_polls::poll::poll_controllers(gate, turn, &mut core, size, ram, sheet)
 }
 
-// A poll over the objects, to a caller who has their controllers and their mailboxes.
+// A poll over the objects, for a caller who has their controllers and their mailboxes.
 pub fn poll_objects(
     gate: Verdict,
     visit: Visit,

@@ -1,13 +1,16 @@
 // The services.
 ghost use Rattle.std.specs.Prelude.{◌≡◌, ◌≤◌, ◌^◌, false, cond, eqb, length, List, ℕ, []};
 ghost use Rattle.rules.specs.Reason.{◌then◌};
+ghost use Rattle.rules.specs.Repeat.{lowest_or};
 ghost use Rattle.rules.specs.Core as state;
+ghost use Rattle.rules.specs.Outcome.{no_answer, taken_by};
 ghost use Rattle.rules.specs.Services as rules;
 ghost use Rattle.core_places.specs.Arrays.{controllers_in, errors_in, mailboxes_in};
 ghost use Rattle.core_places.specs.Beside.{controllers_beside, errors_beside, owners_beside, mailboxes_beside};
 ghost use Rattle.core_answers.specs.Answer.{verdict_reason};
-ghost use Rattle.core_answers.specs.Reply.{question_of, question_answer};
+ghost use Rattle.core_answers.specs.Reply.{question_of, question_answer, write_answer};
 ghost use Rattle.core_answers.specs.Performed.{Noted, Performed};
+ghost use Rattle.core_services.specs.Pool.{free_of_pool};
 ghost use Rattle.core_services.specs.Room.{Room};
 ghost use Rattle.core_lent.specs.Seen.{seen};
 
@@ -19,7 +22,7 @@ use core_places::lent_core::LentCore;
 use core_places::lent_mailboxes::LentMailboxes;
 use core_places::lent_to_read::LentToRead;
 
-// Whether one of the first controllers, of which these are the modes, is STARTED.
+// Whether one of the first `count` controllers, of which these are the modes, is STARTED.
 pub fn some_started(modes: &[u8], count: usize) -> bool
     ensures { result ≡ rules.some_started (seen false count 0 (controllers_beside modes.now [] []) [] [] []) }
 {
@@ -67,15 +70,16 @@ pub fn names_pool(receivings: &[bool], pools: &[u8], count: usize, h: usize) -> 
     core_services::pool::names_pool(&core, h)
 }
 
-// The lowest free member of object h's pool, by the kinds, the pools and where a frame waits.
+// The lowest free member of the pool with this number, by the kinds, the pools and where a frame waits; h where none is free.
 pub fn free_member(
     receivings: &[bool],
     pools: &[u8],
     pendings: &[bool],
     count: usize,
+    pool: u8,
     h: usize,
 ) -> usize
-    ensures { result ≡ state.free_member (seen false 0 count [] [] (owners_beside [] receivings.now pools.now) (mailboxes_beside pendings.now [] [])) h }
+    ensures { result ≡ lowest_or count (free_of_pool (seen false 0 count [] [] (owners_beside [] receivings.now pools.now) (mailboxes_beside pendings.now [] [])) pool) h }
 {
     let core = LentToRead {
         initialised: false,
@@ -94,10 +98,10 @@ pub fn free_member(
         dones: &[],
         fulls: &[],
     };
-    core_services::pool::free_member(&core, h)
+    core_services::pool::member_of(&core, pool, h)
 }
 
-// SetControllerMode, to a caller who has the controllers alone.
+// SetControllerMode, for a caller who has the controllers alone.
 pub fn set_controller_mode(
     gate: Verdict,
     initialised: bool,
@@ -139,7 +143,7 @@ pub fn set_controller_mode(
     )
 }
 
-// Write, but for the frame, to a caller who reads the controllers and the owners.
+// Write, but for the frame, for a caller who reads the controllers and the owners.
 pub fn take_write(
     gate: Verdict,
     frame: Verdict,
@@ -160,6 +164,7 @@ pub fn take_write(
     requires count_in_bounds { (length pendings.old ≤ 2 ^ 32) × (verdict_reason gate ≡ 0 → object_count ≤ length pendings.old) }
     ensures reason { verdict_reason result
         ≡ (verdict_reason gate then rules.write_reason (seen initialised 0 object_count (controllers_beside modes.now requests.now marks.now) (errors_beside [] [] []) (owners_beside controllers.now receivings.now pools.now) (mailboxes_in pendings.old dones.old fulls.old)) object (verdict_reason frame)) }
+    ensures answer { write_answer result ≡ cond (eqb (verdict_reason result) 0) (taken_by (state.free_member (seen initialised 0 object_count (controllers_beside modes.now requests.now marks.now) (errors_beside [] [] []) (owners_beside controllers.now receivings.now pools.now) (mailboxes_in pendings.old dones.old fulls.old)) object)) no_answer }
     ensures mailboxes { mailboxes_in pendings.new dones.new fulls.new
         ≡ (cond (eqb (verdict_reason result) 0) (rules.taken (seen initialised 0 object_count (controllers_beside modes.now requests.now marks.now) (errors_beside [] [] []) (owners_beside controllers.now receivings.now pools.now) (mailboxes_in pendings.old dones.old fulls.old)) (state.free_member (seen initialised 0 object_count (controllers_beside modes.now requests.now marks.now) (errors_beside [] [] []) (owners_beside controllers.now receivings.now pools.now) (mailboxes_in pendings.old dones.old fulls.old)) object)) (seen initialised 0 object_count (controllers_beside modes.now requests.now marks.now) (errors_beside [] [] []) (owners_beside controllers.now receivings.now pools.now) (mailboxes_in pendings.old dones.old fulls.old))).mailboxes }
 {
@@ -183,7 +188,7 @@ pub fn take_write(
     core_services::write::take_write(gate, frame, &mut core, object)
 }
 
-// What is asked of a controller, to a caller who reads the controllers and their errors.
+// What is asked of a controller, for a caller who reads the controllers and their errors.
 pub fn ask_controller(
     gate: Verdict,
     question: Question,

@@ -1,4 +1,4 @@
--- Places whose fields stand in arrays that need not be as long as each other: there are so many as the longest has, and past an array's end its field
+-- Places whose fields stand in arrays that need not be as long as each other: there are as many as the longest has, and past an array's end its field
 -- is at rest. So a call can be lent `&[]` for a field that it does not read.
 use Rattle.std.specs.Prelude.{ℕ, max, Bool, false, List, length, get_or}
 use Rattle.rules.specs.Repeat.{list_below}

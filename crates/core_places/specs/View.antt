@@ -20,7 +20,7 @@ view_owner o = record { controller = o.controller; receiving = o.receiving; pool
 abbrev pub view_mailbox : Mailbox → rules.Mailbox
 view_mailbox m = record { tx_pending = m.tx_pending; tx_done = m.tx_done; rx_full = m.rx_full }
 
--- a core is seen so by its model
+-- clauses see a core as its model shows it (`core_seen`)
 abbrev pub view_core : rules.Core → rules.Core
 view_core core = core
 

@@ -1,4 +1,4 @@
-// The controllers and their errors alone, as a core of which nothing is in use: the controllers are read, and the errors are set. Each kind stands in a
+// The controllers and their errors alone, as a core of which nothing is in use: the controllers are read, from any list, and the errors are set, in a
 // struct of arrays.
 ghost use Rattle.std.specs.Prelude.{◌≡◌, ◌<◌, ◌^◌, ℕ, List, false, set, []};
 ghost use Rattle.rules.specs.Core as state;

@@ -30,6 +30,7 @@ pub struct Core<const C: usize, const O: usize> {
     pub mailboxes: Mailboxes<O>,
 }
 
+// The model forgets nothing, so that one core can go into two calls.
 impl<const C: usize, const O: usize> Model for Core<C, O> {
     ghost use Rattle.rules.specs.Core as rules;
 
@@ -65,6 +66,7 @@ impl<const C: usize, const O: usize> Core<C, O> {
             mailboxes: Mailboxes::empty(),
         }
     }
+
     // How many places there are, for controllers and for objects. Each list is as long as its type says, which its own `len` tells.
     pub fn places(&self) -> (usize, usize)
         ensures numbers { (result.0 ≡ C) × (result.1 ≡ O) }
@@ -155,5 +157,9 @@ impl<const C: usize, const O: usize> SetErrors for Core<C, O> {
 impl<const C: usize, const O: usize> SetMailboxes for Core<C, O> {
     fn set_mailbox(&mut self, h: usize, m: Mailbox) {
         self.mailboxes.set(h, m);
+    }
+
+    fn free_mailbox(&mut self, h: usize) {
+        self.mailboxes.free(h);
     }
 }

@@ -1,4 +1,4 @@
-// A core whose places stand in slices of the caller, so many as there are at run time.
+// A core whose places stand in slices of the caller, as many as there are at run time.
 ghost use Rattle.std.specs.Prelude.{◌≡◌, ◌^◌, length};
 ghost use Rattle.core_places.specs.Arrays.{controllers_in, errors_in, mailboxes_in};
 ghost use Rattle.core_places.specs.Beside.{owners_beside};

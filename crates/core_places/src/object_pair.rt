@@ -1,4 +1,4 @@
-// The objects alone, as a core of which nothing is in use: the owners are read, and the mailboxes are set. Each kind stands in a struct of arrays.
+// The objects alone, as a core of which nothing is in use: the owners are read, from any list, and the mailboxes are set, in a struct of arrays.
 ghost use Rattle.std.specs.Prelude.{◌≡◌, ◌<◌, ◌^◌, ℕ, List, false, set, []};
 ghost use Rattle.rules.specs.Core as state;
 ghost use Rattle.core_places.specs.View.{view_mailbox};

@@ -1,4 +1,4 @@
-// The places of a core, wherever they stand: in a struct of arrays, or in slices of the caller that are as long as they are.
+// The places of a core, wherever they stand: in a struct of arrays, or in slices of a caller, of any lengths.
 ghost use Rattle.std.specs.Prelude.{◌≡◌, ◌<◌, ◌≤◌, ℕ, length, max};
 ghost use Rattle.rules.specs.Core as rules;
 ghost use Rattle.core_places.specs.View.{view_controller, view_errors, view_owner, view_mailbox};
@@ -10,20 +10,22 @@ use crate::mailbox::Mailbox;
 use crate::owner::Owner;
 
 pub trait CorePlaces {
-    // The core as the rules see it; of how many controllers, of how many controllers' errors and of how many mailboxes the caller lets a call set
-    // the place; how many controllers and objects can be read with no test of their number, beside those; and what memory is lent.
+    // The core as the rules see it.
     ghost core: { Self → rules.Core };
 
+    // So many controllers, controllers' errors and mailboxes may be set.
     ghost controllers: { Self → ℕ };
 
     ghost error_places: { Self → ℕ };
 
     ghost objects: { Self → ℕ };
 
+    // Beside those, controllers and objects below these numbers can be read with no test.
     ghost readable_controllers: { Self → ℕ };
 
     ghost readable_objects: { Self → ℕ };
 
+    // The references that are lent.
     ghost memory: { Self → Names };
 
     // What is in use.
@@ -54,7 +56,7 @@ pub trait CorePlaces {
     fn mailbox(&self, h: usize) -> Mailbox
         ensures { view_mailbox result ≡ rules.mailbox_at (core self.now).mailboxes h };
 
-    // What stands at a number that is known to have a place. A core whose type says how many there are need not test it again.
+    // What stands at a number that may be set or read with no test. A core whose type says how many places there are need not test it again.
     fn read_controller(&self, c: usize) -> Controller
         requires { c < max (controllers self.now) (max (error_places self.now) (readable_controllers self.now)) }
         ensures { view_controller result ≡ rules.controller_at (core self.now).controllers c }

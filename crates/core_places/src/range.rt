@@ -1,4 +1,4 @@
-// Places in use stand first: a count parts them from the unused ones.
+// Places in use stand first: a count parts them from the unused ones. And the larger of two numbers of places.
 ghost use Rattle.std.specs.Prelude.{◌≡◌, max, min};
 
 // The count, or the number of places if the count is larger.

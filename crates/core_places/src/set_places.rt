@@ -1,4 +1,4 @@
-// Places of a core that a call may set: a trait for each kind, so that a caller lends to be read what a call does not set.
+// Places of a core that a call may set: a trait for each kind, so that what a call does not set need only be lent to be read.
 ghost use Rattle.std.specs.Prelude.{◌≡◌, ◌<◌, set};
 ghost use Rattle.rules.specs.Core as rules;
 ghost use Rattle.core_places.specs.View.{view_controller, view_errors, view_mailbox};
@@ -6,7 +6,7 @@ ghost use Rattle.core_places.specs.Names.{SameNames};
 
 use crate::controller::Controller;
 use crate::errors::Errors;
-use crate::mailbox::Mailbox;
+use crate::mailbox::{Mailbox, empty_mailbox};
 use crate::places::CorePlaces;
 
 pub trait SetControllers: CorePlaces {
@@ -31,4 +31,14 @@ pub trait SetMailboxes: CorePlaces {
         ensures core { Self.core self.new ≡ rules.with_mailboxes (Self.core self.old) (set (Self.core self.old).mailboxes h (view_mailbox m)) }
         ensures places { (Self.controllers self.new ≡ Self.controllers self.old) × (Self.objects self.new ≡ Self.objects self.old) × (Self.error_places self.new ≡ Self.error_places self.old) }
         ensures memory { SameNames (Self.memory self.new) (Self.memory self.old) };
+
+    // An object is free again.
+    fn free_mailbox(&mut self, h: usize)
+        requires { h < Self.objects self.old }
+        ensures core { Self.core self.new ≡ rules.with_mailboxes (Self.core self.old) (set (Self.core self.old).mailboxes h rules.empty_mailbox) }
+        ensures places { (Self.controllers self.new ≡ Self.controllers self.old) × (Self.objects self.new ≡ Self.objects self.old) × (Self.error_places self.new ≡ Self.error_places self.old) }
+        ensures memory { SameNames (Self.memory self.new) (Self.memory self.old) }
+    {
+        self.set_mailbox(h, empty_mailbox());
+    }
 }

@@ -1,4 +1,4 @@
-// Places of one kind that stand in slices of the caller, one for each field. The slices may be of any lengths: there are so many places as the longest
+// Places of one kind that stand in slices of the caller, one for each field. The slices may be of any lengths: there are as many places as the longest
 // has, and `&[]` is lent for a field that a call does not read.
 ghost use Rattle.core_places.specs.Beside.{longest, controllers_beside, errors_beside, owners_beside, mailboxes_beside};
 

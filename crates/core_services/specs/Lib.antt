@@ -2,3 +2,4 @@
 pub mod Checks
 pub mod Room
 pub mod WriteTaken
+pub mod Pool

@@ -1,6 +1,8 @@
 // The pool that a write names, and the member that takes the frame.
 ghost use Rattle.std.specs.Prelude.{◌≡◌, ◌≤◌, ◌<◌, eqb, max};
+ghost use Rattle.rules.specs.Repeat.{lowest_or};
 ghost use Rattle.rules.specs.Core as rules;
+ghost use Rattle.core_services.specs.Pool.{free_of_pool};
 
 use core_places::places::CorePlaces;
 
@@ -32,12 +34,11 @@ pub fn names_pool<K: CorePlaces>(core: &K, h: usize) -> bool
     }
 }
 
-// The lowest free member of the pool of object h; h where none is free. From the highest object down, so that the last one found is the lowest.
-pub fn free_member<K: CorePlaces>(core: &K, h: usize) -> usize
+// The lowest free member of the pool with this number; h where none is free. From the highest object down, so that the last one found is the lowest.
+pub fn member_of<K: CorePlaces>(core: &K, pool: u8, h: usize) -> usize
     requires { (K.core core.now).object_count ≤ max (K.objects core.now) (K.readable_objects core.now) }
-    ensures { result ≡ rules.free_member (K.core core.now) h }
+    ensures { result ≡ lowest_or (K.core core.now).object_count (free_of_pool (K.core core.now) pool) h }
 {
-    let pool = core.owner(h).pool;
     let mut member = h;
     for i in (0..core.object_count()).rev() {
         let o = core.read_owner(i);
@@ -46,4 +47,12 @@ pub fn free_member<K: CorePlaces>(core: &K, h: usize) -> usize
         }
     }
     member
+}
+
+// The lowest free member of the pool of object h; h where none is free.
+pub fn free_member<K: CorePlaces>(core: &K, h: usize) -> usize
+    requires { (K.core core.now).object_count ≤ max (K.objects core.now) (K.readable_objects core.now) }
+    ensures { result ≡ rules.free_member (K.core core.now) h }
+{
+    member_of(core, core.owner(h).pool, h)
 }

@@ -11,7 +11,6 @@ ghost use Rattle.core_sweeps.specs.Swept.{Told, Freed, Visited, Swept, Lent, box
 
 use crate::visit::{Visit, visit_due, visit_note};
 use core_layout::notification::{Notification, put};
-use core_places::mailbox::empty_mailbox;
 use core_places::set_places::SetMailboxes;
 
 // Writes a notification behind the first told ones, and answers how many there are then.
@@ -38,7 +37,7 @@ fn free_object<K: SetMailboxes>(
     ensures places { (K.controllers core.new ≡ K.controllers core.old) × (K.objects core.new ≡ K.objects core.old) × (K.error_places core.new ≡ K.error_places core.old) }
     ensures memory { SameNames (K.memory core.new) (K.memory core.old) }
 {
-    core.set_mailbox(object, empty_mailbox());
+    core.free_mailbox(object);
     tell(n, told, sheet)
 }
 

@@ -1,4 +1,4 @@
-// When a core is valid, tested on a lent core with any number of places.
+// When a core is valid, tested on lent places, as many as there are.
 #![tactic(auto)]
 
 mod controllers;

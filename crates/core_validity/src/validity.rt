@@ -26,7 +26,7 @@ pub fn places_valid<const C: usize, const O: usize>(core: &Core<C, O>) -> bool
     )
 }
 
-// The same of places that stand in lists.
+// The same of places of each kind, wherever they stand.
 pub fn lists_valid<K: ControllerList, W: OwnerList, M: MailboxList>(
     initialised: bool,
     controller_count: usize,

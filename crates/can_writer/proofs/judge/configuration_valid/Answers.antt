@@ -14,12 +14,13 @@ use Rattle.laws.proofs.Tests.{right}
 use Rattle.core_validity.specs.Pools.{pools_valid}
 use Rattle.core_validity.proofs.Laws.{and_pairs}
 use Rattle.can_state.specs.Tests.{settings_places_valid, pools_agreed}
+use Rattle.can_config.specs.Seen.{setup_seen}
 use Rattle.can_config.specs.View.{view_setup}
 use Rattle.can_writer.proofs.judge.configuration_valid.Goals as goal
 
 pub returns-clause-valid : goal.returns-clause-valid
 returns-clause-valid c =
-    let given = view_setup c.args.setup.now in
+    let given = view_setup (setup_seen c.setup.inside) in
     let k = given.controller_count in
     let n = given.object_count in
     let os = given.owners in
@@ -34,7 +35,7 @@ returns-clause-valid c =
     let same : min n chip.objects ≡ n = omega arith in
     ap (λ (m : ℕ). pools_agreed m os ss) same in
     let t : counted ≡ true = sym c.counts_valid-counted.ensures ∙ c.if-not-counted.false in
-    rw (c.owners_valid-owned.ensures.valid, c.settings_places_valid-suited.ensures.valid, c.pools_agree-pooled.ensures)
+    rw (← c.setup.view_is, c.owners_valid-owned.ensures.valid, c.settings_places_valid-suited.ensures.valid, c.pools_agree-pooled.ensures)
     (ap (λ (p : Bool). owned && suited && p) (all t)
     ∙ and_pairs owned suited pooled agreed
     ∙ ap (λ (b : Bool). b && (owned && pooled) && (suited && agreed)) (sym t))
